@@ -9,7 +9,6 @@ records, the digest of the definition where there is one), then records of big-e
 and angle), the bits of the f64 nearest to the true value, and what is left of the true value in 1/32768 of that f64's last place, 16 bits signed.
 The references need 1,300 binary digits of mpmath and nothing of this project.
 """
-import hashlib
 import math
 import os
 import random
@@ -17,12 +16,11 @@ import re
 import struct
 import sys
 
+from digest import digest
 from mpmath import mp, mpf
 
 mp.prec = 1300
-HERE = os.path.dirname(os.path.abspath(__file__))
-TOP = os.path.dirname(os.path.dirname(HERE))
-GRID = os.path.join(TOP, "tools", "grid", "grid")
+GRID = os.path.join(os.path.dirname(os.path.abspath(__file__)), "grid")
 FIRST_SEED = "lichenoar, first half, 2026-11-15"
 HALF = 5120
 
@@ -210,23 +208,6 @@ RANGES = {
     "round": (draw_round, None),
 }
 
-# the files that a routine's definition is made of: what they say, without comments and layout, is what the second half was drawn for
-DEFINITIONS = {
-    "sqrt": ["roots/Sqrt"],
-    "hypot": ["roots/Hypot", "roots/Seed", "roots/Tables"],
-    "exp": ["exponential/Exp", "exponential/Tables"],
-    "sinh": ["exponential/Sinh", "exponential/Exp", "exponential/Tables"],
-    "cosh": ["exponential/Cosh", "exponential/Exp", "exponential/Tables"],
-    "ln": ["logarithm/Ln", "logarithm/Tables"],
-    "sin": ["circular/Sin", "circular/Kernel", "circular/Reduce"],
-    "cos": ["circular/Cos", "circular/Kernel", "circular/Reduce"],
-    "sin_pi": ["circular/SinPi", "circular/Kernel", "circular/Reduce"],
-    "cos_pi": ["circular/CosPi", "circular/Kernel", "circular/Reduce"],
-    "angle": ["angle/Angle", "angle/Tables"],
-    "round": ["rounding/Round"],
-}
-
-
 def nearest(v):
     """The f64 nearest to v, ties to even, and (v - it) in 1/32768 of its last place."""
     if v == 0:
@@ -249,16 +230,6 @@ def nearest(v):
     if q.bit_length() + unit > 1024:
         return (-math.inf if negative else math.inf), 0
     return (-math.ldexp(q, unit), -left) if negative else (math.ldexp(q, unit), left)
-
-
-def digest(routine):
-    h = hashlib.sha256()
-    for name in DEFINITIONS[routine]:
-        crate, module = name.split("/")
-        text = open(os.path.join(TOP, "crates", crate, "specs", module + ".antt"), encoding="utf-8").read()
-        text = re.sub(r"--[^\n]*", "", text)
-        h.update(" ".join(text.split()).encode("utf-8"))
-    return h.hexdigest()[:32]
 
 
 def write(routine, half, seed, extra):
@@ -285,10 +256,6 @@ def main():
         half, seed, names = "first", FIRST_SEED.replace(" ", "_"), a[1:]
     elif len(a) >= 3 and a[0] == "second" and re.fullmatch(r"[0-9a-f]{40}", a[1]):
         half, seed, names = "second", a[1], a[2:]
-    elif len(a) >= 2 and a[0] == "digest":
-        for name in list(RANGES) if a[1:] == ["all"] else a[1:]:
-            print(name, digest(name))
-        return
     else:
         sys.exit(__doc__)
     for name in list(RANGES) if names == ["all"] else names:

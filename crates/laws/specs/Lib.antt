@@ -1,1 +1,2 @@
+-- The definitions that other crates cite, by topic.
 pub mod Iterate

@@ -1,0 +1,102 @@
+// The C boundary: target/staticlib/libcapi.a. Numbers pass as themselves. Each export has the whole contract of the routine behind it:
+// its result is that routine's definition, for every argument, not-a-number and infinities included.
+ghost use mathlib.Core.Path.{_≡_};
+ghost use Rattle.roots.specs.Sqrt.{sqrtOf};
+ghost use Rattle.roots.specs.Hypot.{hypotOf};
+ghost use Rattle.exponential.specs.Exp.{expOf};
+ghost use Rattle.exponential.specs.Sinh.{sinhOf};
+ghost use Rattle.exponential.specs.Cosh.{coshOf};
+ghost use Rattle.logarithm.specs.Ln.{lnOf};
+ghost use Rattle.circular.specs.Sin.{sinOf};
+ghost use Rattle.circular.specs.Cos.{cosOf};
+ghost use Rattle.circular.specs.SinPi.{sinPiOf};
+ghost use Rattle.circular.specs.CosPi.{cosPiOf};
+ghost use Rattle.angle.specs.Angle.{angleOf};
+ghost use Rattle.rounding.specs.Round.{roundOf};
+
+#[no_mangle]
+pub extern "C" fn lichenoar_sqrt(x: f64) -> f64
+    ensures { λ r. ⌜ r ≡ sqrtOf x ⌝ }
+{
+    roots::sqrt::sqrt(x)
+}
+
+#[no_mangle]
+pub extern "C" fn lichenoar_hypot(x: f64, y: f64) -> f64
+    ensures { λ r. ⌜ r ≡ hypotOf x y ⌝ }
+{
+    roots::hypot::hypot(x, y)
+}
+
+#[no_mangle]
+pub extern "C" fn lichenoar_exp(x: f64) -> f64
+    ensures { λ r. ⌜ r ≡ expOf x ⌝ }
+{
+    exponential::exp::exp(x)
+}
+
+#[no_mangle]
+pub extern "C" fn lichenoar_ln(x: f64) -> f64
+    ensures { λ r. ⌜ r ≡ lnOf x ⌝ }
+{
+    logarithm::ln::ln(x)
+}
+
+#[no_mangle]
+pub extern "C" fn lichenoar_sin(x: f64) -> f64
+    ensures { λ r. ⌜ r ≡ sinOf x ⌝ }
+{
+    circular::sin::sin(x)
+}
+
+#[no_mangle]
+pub extern "C" fn lichenoar_cos(x: f64) -> f64
+    ensures { λ r. ⌜ r ≡ cosOf x ⌝ }
+{
+    circular::cos::cos(x)
+}
+
+// The angle of the point (x, y): y comes first, as in atan2.
+#[no_mangle]
+pub extern "C" fn lichenoar_angle(y: f64, x: f64) -> f64
+    ensures { λ r. ⌜ r ≡ angleOf y x ⌝ }
+{
+    angle::angle::angle(y, x)
+}
+
+#[no_mangle]
+pub extern "C" fn lichenoar_sinh(x: f64) -> f64
+    ensures { λ r. ⌜ r ≡ sinhOf x ⌝ }
+{
+    exponential::sinh::sinh(x)
+}
+
+#[no_mangle]
+pub extern "C" fn lichenoar_cosh(x: f64) -> f64
+    ensures { λ r. ⌜ r ≡ coshOf x ⌝ }
+{
+    exponential::cosh::cosh(x)
+}
+
+// sin(πx) and cos(πx)
+#[no_mangle]
+pub extern "C" fn lichenoar_sin_pi(x: f64) -> f64
+    ensures { λ r. ⌜ r ≡ sinPiOf x ⌝ }
+{
+    circular::sin_pi::sin_pi(x)
+}
+
+#[no_mangle]
+pub extern "C" fn lichenoar_cos_pi(x: f64) -> f64
+    ensures { λ r. ⌜ r ≡ cosPiOf x ⌝ }
+{
+    circular::cos_pi::cos_pi(x)
+}
+
+// Half away from zero.
+#[no_mangle]
+pub extern "C" fn lichenoar_round(x: f64) -> f64
+    ensures { λ r. ⌜ r ≡ roundOf x ⌝ }
+{
+    rounding::round::round(x)
+}

@@ -1,0 +1,1 @@
+//! Not carried over.

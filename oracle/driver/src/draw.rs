@@ -1,0 +1,201 @@
+//! Inputs: random by region and structured around every branch. The same seed gives the same calls.
+
+pub struct Draw(u64);
+
+impl Draw {
+    pub fn new(seed: u64) -> Self {
+        Draw(seed)
+    }
+    /// splitmix64
+    pub fn bits(&mut self) -> u64 {
+        self.0 = self.0.wrapping_add(0x9E37_79B9_7F4A_7C15);
+        let mut z = self.0;
+        z = (z ^ (z >> 30)).wrapping_mul(0xBF58_476D_1CE4_E5B9);
+        z = (z ^ (z >> 27)).wrapping_mul(0x94D0_49BB_1331_11EB);
+        z ^ (z >> 31)
+    }
+    pub fn below(&mut self, n: u64) -> u64 {
+        self.bits() % n
+    }
+    pub fn between(&mut self, low: f64, high: f64) -> f64 {
+        low + (high - low) * ((self.bits() >> 11) as f64 / (1u64 << 53) as f64)
+    }
+    /// A magnitude whose binary exponent is even over low..=high, with random digits; below -1022 it is subnormal.
+    pub fn by_exponent(&mut self, low: i64, high: i64) -> f64 {
+        let e = low + self.below((high - low + 1) as u64) as i64;
+        if e < -1022 {
+            let place = (e + 1074) as u32;
+            f64::from_bits(1 << place | self.bits() & ((1 << place) - 1))
+        } else {
+            f64::from_bits(((e + 1023) as u64) << 52 | self.bits() >> 12)
+        }
+    }
+    /// x moved by up to `places` patterns.
+    pub fn beside(&mut self, x: f64, places: u64) -> f64 {
+        let step = self.below(2 * places + 1) as i64 - places as i64;
+        let b = x.to_bits() as i64 + step;
+        if x == 0.0 { f64::from_bits(self.below(places + 1)) } else { f64::from_bits(b as u64) }
+    }
+    pub fn sign(&mut self, x: f64) -> f64 {
+        if self.bits() & 1 == 0 { x } else { -x }
+    }
+    pub fn of<T: Copy>(&mut self, list: &[T]) -> T {
+        list[self.below(list.len() as u64) as usize]
+    }
+}
+
+/// The arguments of log-gamma that every run begins with: all powers of two, all whole and half arguments to 1,000 with their neighbours, the
+/// neighbours of each boundary, and what is refused.
+pub fn log_gamma_edges() -> Vec<f64> {
+    let mut out = vec![0.0, -0.0, f64::INFINITY, f64::NEG_INFINITY, f64::NAN, -f64::NAN, -1.0, -0.5, -5e-324, f64::MAX, -f64::MAX, f64::from_bits(0x7FF0_0000_0000_0001)];
+    let mut beside = |x: f64, places: i64| {
+        for step in -places..=places {
+            out.push(f64::from_bits((x.to_bits() as i64 + step) as u64));
+        }
+    };
+    for place in 0..52 {
+        beside(f64::from_bits(1 << place), if place > 2 { 2 } else { 0 });
+    }
+    for e in 1..2047u64 {
+        beside(f64::from_bits(e << 52), 2);
+    }
+    for j in 1..=2000 {
+        beside(j as f64 / 2.0, 3);
+    }
+    for x in [7.0, 6.5, 100.1, 100.0, 101.0, 4503599627370496.0, 9007199254740992.0, 2.5563481638716906e305, 2.2250738585072014e-308] {
+        beside(x, 200);
+    }
+    out
+}
+
+pub fn log_gamma_argument(d: &mut Draw) -> f64 {
+    match d.below(10) {
+        0..=2 => d.by_exponent(-1074, 1023),
+        3..=4 => d.between(0.0, 8.0),
+        5 => d.between(0.0, 110.0),
+        6 => d.by_exponent(-60, 60),
+        7 => {
+            let j = d.below(2000) as f64 / 2.0;
+            d.beside(j, 1000)
+        }
+        8 => d.beside(2.5563481638716906e305, 1 << 40),
+        _ => f64::from_bits(d.bits()),
+    }
+}
+
+#[derive(Clone, Copy, Debug)]
+pub struct Call {
+    pub scaled: bool,
+    pub v: f64,
+    pub re: f64,
+    pub im: f64,
+    /// the buffer's length in cells
+    pub length: usize,
+}
+
+const LENGTHS: [usize; 12] = [0, 1, 2, 3, 4, 5, 6, 1022, 1023, 1024, 1025, 1026];
+
+fn length(d: &mut Draw) -> usize {
+    match d.below(40) {
+        0 => d.of(&LENGTHS),
+        1 => d.below(1031) as usize,
+        2 => 2 * (1 + d.below(512) as usize),
+        3..=6 => 2 * (1 + d.below(40) as usize),
+        7..=20 => 2,
+        21..=30 => 4,
+        _ => 6 + 2 * d.below(6) as usize,
+    }
+}
+
+fn order(d: &mut Draw) -> f64 {
+    match d.below(20) {
+        0..=4 => d.below(6) as f64,
+        5..=7 => d.below(2000) as f64 / 2.0,
+        8..=9 => {
+            let half = d.below(2001) as f64 / 2.0;
+            d.beside(half, 4)
+        }
+        10..=12 => d.between(0.0, 3.0),
+        13..=15 => d.between(0.0, 50.0),
+        16..=17 => d.between(0.0, 1000.0),
+        18 => d.by_exponent(-1074, -1),
+        _ => d.of(&[0.0, -0.0, 1000.0, 999.5, 0.5, 1.5, f64::from_bits(1), f64::from_bits(0x408F_4000_0000_0001), -1.0, f64::NAN, f64::INFINITY]),
+    }
+}
+
+/// A modulus at a value that a kernel tests, or near it.
+fn threshold(d: &mut Draw) -> f64 {
+    let x = d.of(&[2.0, f64::EPSILON, f64::from_bits(0x403C_AAAA_AAAA_AAAA), 664.8716455337102, 700.9217936944459, 32768.0, 1000.0 * f64::MIN_POSITIVE, 1.0, 28.0]);
+    d.beside(x, 6)
+}
+
+pub fn call_k(d: &mut Draw) -> Call {
+    let scaled = d.below(2) == 0;
+    let v = order(d);
+    let (re, im) = match d.below(24) {
+        0..=3 => (d.between(0.0, 3.0), d.between(-3.0, 3.0)),
+        4..=6 => (d.between(0.0, 60.0), d.between(-60.0, 60.0)),
+        7..=8 => (d.between(640.0, 1200.0), d.of(&[0.0, -0.0, 1e-300, 1.0, -30.0])),
+        9..=10 => (d.between(640.0, 1200.0), d.between(-800.0, 800.0)),
+        11 => (threshold(d), d.of(&[0.0, -0.0])),
+        12 => (0.0, threshold(d)),
+        13 => {
+            let (r, a) = (threshold(d), d.between(-1.5707963267948966, 1.5707963267948966));
+            ((r * a.cos()).abs(), r * a.sin())
+        }
+        14 => {
+            let x = d.by_exponent(-1074, -40);
+            (x, d.of(&[0.0, -0.0]))
+        }
+        15 => {
+            let (x, y) = (d.by_exponent(-1074, 3), d.by_exponent(-1074, 3));
+            (x, d.sign(y))
+        }
+        16 => (0.0, d.between(-40.0, 40.0)),
+        17..=18 => (d.between(0.0, 32768.0), d.between(-32768.0, 32768.0)),
+        19 => {
+            let (x, y) = (d.by_exponent(-30, 14), d.by_exponent(-60, 14));
+            (x, d.sign(y))
+        }
+        20 => {
+            let (x, y) = (d.between(1.5, 30.0), d.by_exponent(-1074, -10));
+            (x, d.sign(y))
+        }
+        21 => (d.of(&[0.0, -0.0, f64::from_bits(0x8000_0000_0000_0001), 32768.0, f64::from_bits(0x40E0_0000_0000_0001), f64::NAN, f64::INFINITY]), d.of(&[0.0, -0.0, 32768.0, -32768.0, f64::from_bits(0xC0E0_0000_0000_0001), f64::NAN, f64::NEG_INFINITY])),
+        22 => (d.between(660.0, 702.0), d.between(-1.0, 1.0)),
+        _ => (d.by_exponent(-10, 10), 0.0),
+    };
+    Call { scaled, v, re, im, length: length(d) }
+}
+
+pub fn call_i(d: &mut Draw) -> Call {
+    let scaled = d.below(2) == 0;
+    let v = order(d);
+    let length = length(d);
+    let n = (length / 2).max(1) as f64;
+    // the largest modulus that refusal 5 lets through
+    let edge = 2.0 * (v.abs().min(1000.0) + n).sqrt();
+    let r = match d.below(12) {
+        0..=3 => d.between(0.0, edge),
+        4 => d.beside(edge, 20),
+        5 => d.between(0.0, 2.0),
+        6 => d.by_exponent(-1074, 1),
+        7 => threshold(d),
+        8 => d.between(0.5 * edge, edge),
+        9 => d.by_exponent(-60, 1),
+        _ => d.between(0.0, 1.1 * edge),
+    };
+    let (re, im) = match d.below(8) {
+        0 => (r, d.of(&[0.0, -0.0])),
+        1..=2 => (0.0, d.sign(r)),
+        3 => {
+            let t = d.by_exponent(-1074, -1);
+            (t.min(r), d.sign(r))
+        }
+        _ => {
+            let a = d.between(-1.5707963267948966, 1.5707963267948966);
+            ((r * a.cos()).abs(), r * a.sin())
+        }
+    };
+    Call { scaled, v, re, im, length }
+}

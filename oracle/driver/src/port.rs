@@ -1,0 +1,68 @@
+//! The entry points of libcapi.a. `None` where it has none yet: the two copies of the text are then compared with each other alone.
+#![allow(unused_variables, dead_code)]
+
+use crate::draw::Call;
+use crate::reference::{Kind, Outcome};
+
+#[repr(C)]
+struct LogGamma {
+    value: f64,
+    number: u32,
+}
+
+#[repr(C)]
+struct Answer {
+    number: u32,
+    zeros: i32,
+    longest_sum: u32,
+    rungs: u32,
+    backward: u32,
+}
+
+extern "C" {
+    #[cfg(feature = "log_gamma")]
+    fn lichenoar_log_gamma(x: f64) -> LogGamma;
+    #[cfg(feature = "i")]
+    fn lichenoar_i(scaled: u8, v: f64, re: f64, im: f64, out: *mut f64, length: usize) -> Answer;
+    #[cfg(feature = "k")]
+    fn lichenoar_k(scaled: u8, v: f64, re: f64, im: f64, out: *mut f64, length: usize) -> Answer;
+}
+
+pub fn log_gamma(x: f64) -> Option<(u32, u64)> {
+    #[cfg(feature = "log_gamma")]
+    {
+        let r = unsafe { lichenoar_log_gamma(x) };
+        return Some((r.number, r.value.to_bits()));
+    }
+    #[cfg(not(feature = "log_gamma"))]
+    None
+}
+
+/// The call, on a buffer filled with the given rubbish and guarded by a cell on each side.
+pub fn outcome(kind: Kind, c: &Call, rubbish: u64) -> Option<Result<Outcome, String>> {
+    let function: Option<unsafe extern "C" fn(u8, f64, f64, f64, *mut f64, usize) -> Answer> = match kind {
+        #[cfg(feature = "k")]
+        Kind::K => Some(lichenoar_k),
+        #[cfg(feature = "i")]
+        Kind::I => Some(lichenoar_i),
+        #[allow(unreachable_patterns)]
+        _ => None,
+    };
+    let function = function?;
+    let mut cells = vec![f64::from_bits(rubbish); c.length + 2];
+    let guard = 0x0123_4567_89AB_CDEF;
+    cells[0] = f64::from_bits(guard);
+    cells[c.length + 1] = f64::from_bits(guard);
+    let a = unsafe { function(c.scaled as u8, c.v, c.re, c.im, cells.as_mut_ptr().add(1), c.length) };
+    if cells[0].to_bits() != guard || cells[c.length + 1].to_bits() != guard {
+        return Some(Err("a cell outside the buffer was written".to_string()));
+    }
+    Some(Ok(Outcome {
+        number: a.number,
+        zeros: a.zeros,
+        longest_sum: a.longest_sum,
+        rungs: a.rungs,
+        backward: a.backward,
+        cells: cells[1..=c.length].iter().map(|x| x.to_bits()).collect(),
+    }))
+}

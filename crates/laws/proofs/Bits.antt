@@ -188,6 +188,17 @@ pub bits-lt-back : (b c : ℕ) → b < infBits → c < infBits → T (lt (ofBits
 bits-lt-back b c h k t =
     units-lt-back b c (lt-of-mul-lt-mul-right (2 ^ 1074) (lt-values (ofBits binary64 b) (ofBits binary64 c) (unitsOf b) (2 ^ 1074) (unitsOf c) (2 ^ 1074) (pow-pos 1074) (pow-pos 1074) (bits-value b h) (bits-value c k) t))
 
+-- a finite value is below 2 ^ 1024
+pub units-under : (b : ℕ) → b < infBits → unitsOf b < 2 ^ 2098
+units-under b h =
+    lt-of-lt-of-le (field-top (b / 2 ^ 52) (b % 2 ^ 52) (digits-in b)) (le-trans (mul-le-mul-left (2 ^ 52) (pow-mono (last b h))) (le-of-eq (sym (pow-add 2 52 2046))))
+  where
+    digits-in : (b : ℕ) → b % 2 ^ 52 < 2 ^ 52
+    digits-in b = omega arith
+
+    last : (b : ℕ) → b < infBits → b / 2 ^ 52 ≤ 2046
+    last b h = omega arith
+
 -- ---- which patterns are finite, and which are a NaN's
 pub bits-finite : (b : ℕ) → b < infBits → T (finite (ofBits binary64 b))
 bits-finite b h = value-finite (ofBits binary64 b) false (unitsOf b) (2 ^ 1074) (bits-value b h)

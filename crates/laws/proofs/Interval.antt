@@ -333,7 +333,7 @@ range f σ (quotient a b) = divI f (range f σ a) (range f σ b)
 range f σ (share a b) = let i = range f σ a in after i (range f (i ∷ σ) b)
 range f σ (opposite a) = negI (range f σ a)
 
--- each variable lies in its interval
+-- each variable lies in its interval: for two variables the proof is (p, (q, tt))
 abbrev pub Inside : List Interval → List Float → Type 0
 Inside [] ρ = Unit {0}
 Inside (i ∷ σ) [] = ⊥

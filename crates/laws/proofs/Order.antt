@@ -147,6 +147,18 @@ le-trans-float (fin s m e) (fin t n d) (fin u o g) h k =
 pub le-refl-finite : (x : Float) → T (finite x) → T (le x x)
 le-refl-finite x p = Le→le x x p p (le-of-eq refl)
 
+pub le-ordered : (x y : Float) → T (le x y) → T (le y y)
+unfolding le
+le-ordered x nan h = absurd (nothing x h)
+  where
+    nothing : (x : Float) → T (le x nan) → ⊥
+    nothing nan t = t
+    nothing (inf s) t = t
+    nothing (fin s m e) t = t
+le-ordered x (inf true) h = tt
+le-ordered x (inf false) h = tt
+le-ordered x (fin t n d) h = le-refl-finite (fin t n d) tt
+
 not-below : (s : Bool) (m : ℕ) (e : ℤ) (t : Bool) (n : ℕ) (d : ℤ) → T (not (lt (fin s m e) (fin t n d))) → Le (fin t n d) (fin s m e)
 unfolding lt
 not-below false m e false n d h = let k = nltb→le (m * up e * down d) (n * up d * down e) h in omega arith

@@ -2,7 +2,7 @@
 -- One rounding to nearest in the normal range is within one part in 2 ^ prec of its fraction, and everywhere within half a unit of the last digit; products, quotients, sums and chains follow.
 -- A chain of operations ends in `rat-weaken`, whose two conditions are tests on literals. Assumes nothing.
 use mathlib.Core.Path.{_≡_, refl, sym, ap, _∙_, subst}
-use mathlib.Core.Logic.{inl, inr}
+use mathlib.Core.Logic.{_⊎_, inl, inr}
 use mathlib.Core.Bool.{Bool, true, false, not, cond, true≢false}
 use Prim.Native.Nat.{ℕ, zero, suc, _+_, _-_, _*_, _/_, _%_, _^_, _≤_, _<_, compare, Ordering, Ordering·lt, Ordering·eq, Ordering·gt}
 use native.Mathlib.Nat.{le-refl, le-trans, le-of-eq, lt-of-lt-of-le, lt-irrefl, not-le-of-lt, mul-one, mul-comm, mul-assoc, mul-left-comm, mul-right-comm, mul-pos, mul-le-mul, mul-le-mul-left, mul-le-mul-right, le-of-mul-le-mul-right, div-add-mod', mod-lt, le-div-iff-mul-le, div-lt-iff-lt-mul, eq-or-lt-of-le, add-suc, sub-add-cancel, mul-lt-mul-of-pos-right, pow-succ'}
@@ -132,7 +132,7 @@ cmp a b = go (compare a b) (leb→le a b) (nleb→lt a b) (eqb→eq a b) (λ (e 
     go Ordering·eq h k e n = e tt
     go Ordering·gt h k e n = k tt
 
-abbrev Half : ℕ → ℕ → ℕ → Type 0
+abbrev pub Half : ℕ → ℕ → ℕ → Type 0
 Half q n u = (2 * (q * u) ≤ 2 * n + u) × (2 * n ≤ 2 * (q * u) + u)
 
 at-tie : (w t r u : ℕ) → t ≤ 1 → r * 2 ≡ u → Half (w + t) (w * u + r) u
@@ -219,22 +219,28 @@ round-value f a c z e t = subst (λ (x : Float). HasValue x false (grid f a c) (
 pub round-nonnegative : (f : Format) (a c : ℕ) (z : Float) → z ≡ round f false a c → T (finite z) → T (nonnegative z)
 round-nonnegative f a c z e t = nonnegative-of-value z (grid f a c) (2 ^ low f) (round-value f a c z e t)
 
-finite-below : (f : Format) (q k : ℕ) (y : Float) → T (finite y) → T (le (units f false q k) y) → T (finite (units f false q k))
-unfolding units le
-finite-below f q k y t = go (ltb (q * 2 ^ k) (2 ^ (low f + suc (emax f)))) y t
+units-shape : (f : Format) (q k : ℕ) → (units f false q k ≡ inf false) ⊎ T (finite (units f false q k))
+unfolding units
+units-shape f q k = go (ltb (q * 2 ^ k) (2 ^ (low f + suc (emax f))))
   where
-    go : (b : Bool) (y : Float) → T (finite y) → T (le (cond b (odd (suc (prec f)) false q k (low f)) (inf false)) y) → T (finite (cond b (odd (suc (prec f)) false q k (low f)) (inf false)))
-    go true y t h = odd-finite (suc (prec f)) q k (low f)
-    go false nan t h = h
-    go false (inf s) t h = t
-    go false (fin s m e) t h = h
+    go : (b : Bool) → (cond b (odd (suc (prec f)) false q k (low f)) (inf false) ≡ inf false) ⊎ T (finite (cond b (odd (suc (prec f)) false q k (low f)) (inf false)))
+    go true = inr (odd-finite (suc (prec f)) q k (low f))
+    go false = inl refl
+
+pub round-shape : (f : Format) (a c : ℕ) → (round f false a c ≡ inf false) ⊎ T (finite (round f false a c))
+round-shape f a c = rw (round-is f false a c) (units-shape f (kept (prec f) (a * 2 ^ low f) c) (drop (prec f) (a * 2 ^ low f) c))
+
+not-infinity : (y : Float) → T (finite y) → T (le (inf false) y) → ⊥
+unfolding le
+not-infinity nan t h = h
+not-infinity (inf s) t h = t
+not-infinity (fin s m e) t h = h
+
+pub round-below : (f : Format) (a c : ℕ) (y : Float) → T (finite y) → T (le (round f false a c) y) → T (finite (round f false a c))
+round-below f a c y t h = elim (round-shape f a c) [ inl e ↦ absurd (not-infinity y t (subst (λ (x : Float). T (le x y)) e h)) | inr u ↦ u ]
 
 pub round-finite : (f : Format) (a c : ℕ) → 0 < c → a ≤ largest f * c → T (finite (round f false a c))
-round-finite f a c C h =
-    subst (λ (x : Float). T (finite x)) (sym (round-is f false a c))
-    (finite-below f (kept (prec f) (a * 2 ^ low f) c) (drop (prec f) (a * 2 ^ low f) c) (round f false (largest f) 1) (top f)
-    (subst (λ (x : Float). T (le x (round f false (largest f) 1))) (round-is f false a c)
-    (round-mono f a c (largest f) 1 C (lit< tt) (le-trans (le-of-eq (mul-one a)) h))))
+round-finite f a c C h = round-below f a c (round f false (largest f) 1) (top f) (round-mono f a c (largest f) 1 C (lit< tt) (le-trans (le-of-eq (mul-one a)) h))
 
 -- ---- one rounding in the normal range: one part in 2 ^ prec
 -- P is 2 ^ prec, Q one less, and u the unit of the last digit kept: n is P / 2 units at least

@@ -24,7 +24,7 @@ const BRANCHES: [(u32, &str, &str); 35] = [
     (9, "I sum taken", "i"),
     (10, "I downward step", "i"),
     (11, "K one finished value", "k"),
-    (12, "K Temme near overflow", "-"),
+    (12, "K Temme near overflow", "k"),
     (13, "K seeds kept on scale", "k"),
     (15, "K climb out of underflow", "k"),
     (16, "K climb: value on scale", "k"),

@@ -540,6 +540,30 @@ binade-down j k h u =
     in-field : (j : ℕ) → 1075 - j < 2047
     in-field j = omega arith
 
+-- q steps of 2 ^ j units, where q has the leading digit; at q = 2 ^ 53 the next binade starts
+pub units-steps : (j q : ℕ) → 2 ^ 52 ≤ q → q ≤ 2 ^ 53 → unitsOf (j * 2 ^ 52 + q) ≡ q * 2 ^ j
+units-steps j q l u = elim (eq-or-lt-of-le u) [
+  | inl e ↦
+      ap (λ (b : ℕ). unitsOf b) (next j q e)
+      ∙ units-at (suc (suc j)) 0 (pow-pos 52)
+      ∙ ap (λ (z : ℕ). (2 ^ 52 + 0) * z) (pow-succ' 2 j)
+      ∙ sym (mul-assoc (2 ^ 52 + 0) 2 (2 ^ j))
+      ∙ ap (λ (z : ℕ). z * 2 ^ j) (sym e)
+  | inr h ↦ ap (λ (b : ℕ). unitsOf b) (here j q l) ∙ units-at (suc j) (q - 2 ^ 52) (rest q h) ∙ ap (λ (z : ℕ). z * 2 ^ j) (whole q l)
+]
+  where
+    next : (j q : ℕ) → q ≡ 2 ^ 53 → j * 2 ^ 52 + q ≡ suc (suc j) * 2 ^ 52 + 0
+    next j q e = omega arith
+
+    here : (j q : ℕ) → 2 ^ 52 ≤ q → j * 2 ^ 52 + q ≡ suc j * 2 ^ 52 + (q - 2 ^ 52)
+    here j q l = omega arith
+
+    rest : (q : ℕ) → q < 2 ^ 53 → q - 2 ^ 52 < 2 ^ 52
+    rest q h = omega arith
+
+    whole : (q : ℕ) → 2 ^ 52 ≤ q → 2 ^ 52 + (q - 2 ^ 52) ≡ q
+    whole q l = omega arith
+
 -- the whole numbers from 2 ^ 52 to 2 ^ 53: 0x4330000000000000 is the pattern of 2 ^ 52
 pub whole-pattern : (k : ℕ) → k < 2 ^ 52 → HasValue (ofBits binary64 (0x4330000000000000 + k)) false (2 ^ 52 + k) 1
 whole-pattern k h = binade-down 0 k (lit< tt) h

@@ -2,22 +2,21 @@
 -- A result is compared, by monotone rounding, with a chosen fraction p / q in the normal range, so it may itself underflow. The slack of one operation is one part in 2 ^ prec.
 -- The laws that end in -by are for a known fraction k / m times an unknown S / W: what they ask of the known part is one computed test, so that `tt` proves it. Assumes nothing.
 use mathlib.Core.Path.{_≡_, refl, sym, ap, _∙_, subst}
-use mathlib.Core.Logic.{_⊎_, inl, inr}
-use mathlib.Core.Bool.{Bool, true, false, not, _&&_, _||_, cond, true≢false}
-use Prim.Native.Nat.{ℕ, zero, suc, _+_, _-_, _*_, _^_, _≤_, _<_, zero-le}
-use native.Mathlib.Nat.{suc-inj, one-mul, mul-mul-mul-comm, zero-lt-suc, sub-le, le-refl, le-trans, le-of-eq, lt-of-lt-of-le, lt-of-le-of-lt, lt-irrefl, le-of-suc-le-suc, not-suc-le-zero, eq-or-lt-of-le, zero-mul, mul-zero, mul-one, mul-comm, mul-assoc, mul-right-comm, mul-pos, mul-le-mul, mul-le-mul-left, mul-le-mul-right, le-of-mul-le-mul-right, mul-lt-mul-of-pos-right, lt-of-mul-lt-mul-right}
+use mathlib.Core.Logic.{inl, inr}
+use mathlib.Core.Bool.{Bool, true, false, not, _&&_}
+use Prim.Native.Nat.{ℕ, zero, suc, _+_, _-_, _*_, _^_, _≤_, _<_}
+use native.Mathlib.Nat.{suc-inj, one-mul, mul-mul-mul-comm, zero-lt-suc, sub-le, sub-add-cancel, le-refl, le-trans, le-of-eq, lt-of-lt-of-le, lt-irrefl, le-of-suc-le-suc, not-suc-le-zero, eq-or-lt-of-le, eq-zero-or-pos, mul-one, mul-comm, mul-pos, mul-le-mul, mul-le-mul-left, mul-le-mul-right, le-of-mul-le-mul-right, mul-lt-mul-of-pos-right, lt-of-mul-lt-mul-right}
 use native.Mathlib.Omega.{arith}
 use lib.IntN.{ℤ}
 use lib.Dec.{T, leb, ltb, eqb, leb→le, ltb→lt, lt→ltb, eqb→eq, lit<, lit≤}
 use lib.Arith.{le→nltb}
 use lib.Pow.{pow-pos, pow-add}
-use lib.Ieee.{Float, nan, inf, fin, Format, binary32, binary64, prec, emax, low, up, down, odd, units, round, sum, add, sub, mul, div, le, lt}
-use lib.Ieee.Fits.{up-pos, down-pos, round-is, and-l, and-r}
-use lib.Ieee.Exact.{HasValue}
-use lib.Ieee.Order.{drop, kept, round-mono, le-of-values}
+use lib.Ieee.{Float, nan, inf, fin, Format, binary32, binary64, prec, emax, up, down, round, add, sub, mul, div, le, lt}
+use lib.Ieee.Fits.{up-pos, down-pos, and-l, and-r}
+use lib.Ieee.Order.{round-mono, le-of-values}
 use lib.Ieee.Scale.{finite}
-use lib.Ieee.Positive.{num, den, positive, above, above-of-le, den-pos, first-pos, through, positive-of-value}
-use Rattle.laws.proofs.Relative.{Rat, Close, Normal, largest, nonnegative, nonnegative-finite, nonnegative-value, nonnegative-of-value, positive-nonnegative, positive-of-num, round-nonnegative, round-shape, round-below, round-finite, round-close, mul-round, add-round, div-round, sub-round}
+use lib.Ieee.Positive.{num, den, positive, above, above-of-le, le→cross, den-pos, first-pos, through}
+use Rattle.laws.proofs.Relative.{Rat, Normal, largest, nonnegative, nonnegative-finite, nonnegative-value, positive-nonnegative, positive-of-num, round-nonnegative, round-shape, round-below, round-finite, round-close, ones-pos, mul-round, add-round, sub-round, div-round}
 
 abbrev pub AtLeast : Float → ℕ → ℕ → Type 0
 AtLeast nan a c = ⊥
@@ -111,25 +110,23 @@ lo-of-rat {L} {U} {D} {b} {d} z p P Q r =
     lo-at z (L * b) (D * d) p (mul-pos P Q) k
 
 -- ---- the order of floats
-or-split : (a b : Bool) → T (a || b) → T a ⊎ T b
-or-split true b t = inl tt
-or-split false b t = inr t
-
-lt-or-eq : (a b : ℕ) → T (ltb a b || (eqb a b && true)) → a ≤ b
-lt-or-eq a b t = elim (or-split (ltb a b) (eqb a b && true) t) [ inl u ↦ le-of-suc-le-suc (le-trans (ltb→lt a b u) (le-step b)) | inr u ↦ le-of-eq (eqb→eq a b (and-l (eqb a b) true u)) ]
-  where
-    le-step : (n : ℕ) → n ≤ suc n
-    le-step n = omega arith
+above-positive : (y : Float) → T (nonnegative y) → T (above y) → T (positive y)
+above-positive nan q k = k
+above-positive (inf t) q k = absurd q
+above-positive (fin true n d) q k = k
+above-positive (fin false n d) q k = k
 
 pub nonnegative-cross : (x y : Float) → T (nonnegative x) → T (nonnegative y) → T (le x y) → num x * den y ≤ num y * den x
-unfolding le
-nonnegative-cross nan y p q h = absurd p
-nonnegative-cross (inf s) y p q h = absurd p
-nonnegative-cross (fin true m e) y p q h = absurd p
-nonnegative-cross (fin false m e) nan p q h = absurd q
-nonnegative-cross (fin false m e) (inf t) p q h = absurd q
-nonnegative-cross (fin false m e) (fin true n d) p q h = absurd q
-nonnegative-cross (fin false m e) (fin false n d) p q h = lt-or-eq (m * up e * down d) (n * up d * down e) h
+nonnegative-cross x y p q h =
+    elim (eq-zero-or-pos (num x)) [
+      | inl z ↦ zero-case (num x) (den y) (num y * den x) z
+      | inr n ↦
+          let X = positive-of-num x p n in
+          le→cross x y X (above-positive y q (above-of-le x y X h)) h
+    ]
+  where
+    zero-case : (n d w : ℕ) → n ≡ 0 → n * d ≤ w
+    zero-case n d w z = subst (λ (k : ℕ). k * d ≤ w) (sym z) (omega arith)
 
 pub nonnegative-le : (x y : Float) → T (nonnegative x) → T (nonnegative y) → num x * den y ≤ num y * den x → T (le x y)
 nonnegative-le x y p q h = le-of-values x y (num x) (den x) (num y) (den y) (den-pos x) (den-pos y) (nonnegative-value x p) (nonnegative-value y q) h
@@ -316,10 +313,6 @@ cancel-gain : (x d p q P Q : ℕ) → 0 < P → 0 < Q → Q * (p * P * d) ≤ P 
 cancel-gain x d p q P Q h g l =
     let k : p * d * (P * Q) ≤ x * q * (P * Q) = omega arith in
     le-of-mul-le-mul-right k (mul-pos h g)
-
-ones-pos : (f : Format) → 0 < 2 ^ prec f - 1
-ones-pos binary32 = lit< tt
-ones-pos binary64 = lit< tt
 
 -- what lies one part in 2 ^ prec above p / q rounds to p / q at least
 pub floor : (f : Format) (p q : ℕ) → 0 < q → Normal f p q → Lo (round f false (p * 2 ^ prec f) (q * (2 ^ prec f - 1))) p q
@@ -552,6 +545,58 @@ module _ (f : Format) (p q : ℕ) {x y : Float} {a c b d : ℕ} where
   pub div-lo : 0 < q → Normal f p q → 0 < a → p * 2 ^ prec f * (c * b) ≤ a * d * (q * (2 ^ prec f - 1)) → Lo x a c → Up y b d → Lo (div f x y) p q
   div-lo h N A l r s =
       div-lo-at f (p * 2 ^ prec f) (q * (2 ^ prec f - 1)) (mul-pos (normal-pos f p q h N) (pow-pos (prec f))) (mul-pos h (ones-pos f)) (normal-pos f p q h N) x y A r s l (floor f p q h N)
+
+-- ---- a difference, of a value and one no larger
+sub-cross : (x y dx dy a c b d a' c' : ℕ) → 0 < c → 0 < d → y * dx ≤ x * dy → x * c ≤ a * dx → b * dy ≤ y * d → (a * d - b * c) * c' ≤ a' * (c * d) → (x * dy - y * dx) * c' ≤ a' * (dx * dy)
+sub-cross x y dx dy a c b d a' c' C D o h k l = go (x * dy - y * dx) (a * d - b * c) (sub-add-cancel o) (at-most (a * d) (b * c)) l
+  where
+    at-most : (u v : ℕ) → u ≤ u - v + v
+    at-most u v = omega arith
+
+    go : (s t : ℕ) → s + y * dx ≡ x * dy → a * d ≤ t + b * c → t * c' ≤ a' * (c * d) → s * c' ≤ a' * (dx * dy)
+    go s t e g l =
+        let i : s * (c * d) ≤ t * (dx * dy) = omega (arith, ap (λ (z : ℕ). z * (c * d)) e, mul-le-mul-right (dx * dy) g, mul-le-mul-right (dy * d) h, mul-le-mul-right (dx * c) k) in
+        let j : s * c' * (c * d) ≤ a' * (dx * dy) * (c * d) = omega (arith, mul-le-mul-right c' i, mul-le-mul-right (dx * dy) l) in
+        le-of-mul-le-mul-right j (mul-pos C D)
+
+sub-cross-lo : (x y dx dy a c b d a' c' : ℕ) → 0 < c → 0 < d → b * c ≤ a * d → a * dx ≤ x * c → y * d ≤ b * dy → a' * (c * d) ≤ (a * d - b * c) * c' → a' * (dx * dy) ≤ (x * dy - y * dx) * c'
+sub-cross-lo x y dx dy a c b d a' c' C D o h k l = go (x * dy - y * dx) (a * d - b * c) (sub-add-cancel o) (at-most (x * dy) (y * dx)) l
+  where
+    at-most : (u v : ℕ) → u ≤ u - v + v
+    at-most u v = omega arith
+
+    go : (s t : ℕ) → t + b * c ≡ a * d → x * dy ≤ s + y * dx → a' * (c * d) ≤ t * c' → a' * (dx * dy) ≤ s * c'
+    go s t e g l =
+        let i : t * (dx * dy) ≤ s * (c * d) = omega (arith, ap (λ (z : ℕ). z * (dx * dy)) e, mul-le-mul-right (c * d) g, mul-le-mul-right (dy * d) h, mul-le-mul-right (dx * c) k) in
+        let j : a' * (dx * dy) * (c * d) ≤ s * c' * (c * d) = omega (arith, mul-le-mul-right c' i, mul-le-mul-right (dx * dy) l) in
+        le-of-mul-le-mul-right j (mul-pos C D)
+
+sub-infinite-l : (f : Format) (y : Float) → T (nonnegative y) → sub f (inf false) y ≡ inf false
+unfolding sub
+sub-infinite-l f nan k = absurd k
+sub-infinite-l f (inf t) k = absurd k
+sub-infinite-l f (fin true n e) k = absurd k
+sub-infinite-l f (fin false n e) k = refl
+
+module _ (f : Format) (p q : ℕ) {x y : Float} {a c b d : ℕ} where
+  pub sub-up : Range f p q → (a * d - b * c) * (q * (2 ^ prec f + 1)) ≤ p * 2 ^ prec f * (c * d) → T (nonnegative y) → num y * den x ≤ num x * den y → Up x a c → Lo y b d → Up (sub f x y) p q
+  sub-up g l Y o r s =
+      subst (λ (z : Float). Up z p q) (sym (sub-round f x y (r .sign) Y o))
+      (round-up f (num x * den y - num y * den x) (den x * den y) (p * 2 ^ prec f) (q * (2 ^ prec f + 1)) (mul-pos (den-pos x) (den-pos y)) (slack-pos f q (g .over))
+      (sub-cross (num x) (num y) (den x) (den y) a c b d (p * 2 ^ prec f) (q * (2 ^ prec f + 1)) (r .over) (s .over) o (r .bound) (lo-bound s (nonnegative-finite y Y)) l) (cap f p q g))
+
+  pub sub-lo : 0 < q → Normal f p q → b * c ≤ a * d → p * 2 ^ prec f * (c * d) ≤ (a * d - b * c) * (q * (2 ^ prec f - 1)) → Lo x a c → Up y b d → Lo (sub f x y) p q
+  sub-lo h N o l r s = go x (r .bound)
+    where
+      go : (x : Float) → AtLeast x a c → Lo (sub f x y) p q
+      go nan k = absurd k
+      go (inf true) k = absurd k
+      go (inf false) k = subst (λ (z : Float). Lo z p q) (sym (sub-infinite-l f y (s .sign))) (infinite p q h)
+      go (fin true m e) k = absurd k
+      go (fin false m e) k =
+          subst (λ (z : Float). Lo z p q) (sym (sub-round f (fin false m e) y tt (s .sign) (below-cross (num y) (m * up e) (den y) (down e) b d a c (s .over) (r .over) (s .bound) k o)))
+          (round-lo f (m * up e * den y - num y * down e) (down e * den y) (p * 2 ^ prec f) (q * (2 ^ prec f - 1)) (mul-pos (down-pos e) (den-pos y)) (mul-pos h (ones-pos f)) (normal-pos f p q h N)
+          (sub-cross-lo (m * up e) (num y) (down e) (den y) a c b d (p * 2 ^ prec f) (q * (2 ^ prec f - 1)) (r .over) (s .over) o k (s .bound) l) (floor f p q h N))
 
 -- ---- an unknown S / W between 2 ^ -r and 2 ^ t
 pub record Span (r t S W : ℕ) : Type 0 where

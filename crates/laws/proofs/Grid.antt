@@ -4,14 +4,14 @@
 use mathlib.Core.Path.{_≡_, refl, sym, ap, ap₂, _∙_, subst}
 use mathlib.Core.Logic.{_⊎_, inl, inr}
 use Prim.Native.Nat.{ℕ, zero, suc, _+_, _-_, _*_, _/_, _%_, _^_, _≤_, _<_, zero-le}
-use native.Mathlib.Nat.{le-trans, le-of-eq, le-of-lt, lt-of-lt-of-le, lt-of-le-of-lt, lt-irrefl, not-le-of-lt, lt-of-not-le, eq-or-lt-of-le, zero-lt-suc, add-zero, zero-add, mul-one, one-mul, zero-mul, mul-pos, mul-assoc, mul-comm, mul-left-comm, mul-right-comm, mul-add, add-mul, mul-le-mul-right, mul-le-mul-left, mul-lt-mul-of-pos-right, le-of-mul-le-mul-right, lt-of-mul-lt-mul-right, eq-of-mul-eq-mul-right, le-div-iff-mul-le, div-lt-iff-lt-mul, sub-add-cancel, pow-suc, pow-succ'}
+use native.Mathlib.Nat.{le-trans, le-of-eq, le-of-lt, lt-of-lt-of-le, lt-of-le-of-lt, lt-irrefl, not-le-of-lt, lt-of-not-le, eq-or-lt-of-le, zero-lt-suc, add-zero, zero-add, suc-add, mul-one, one-mul, zero-mul, mul-pos, mul-assoc, mul-comm, mul-left-comm, mul-right-comm, mul-mul-mul-comm, mul-add, add-mul, mul-le-mul-right, mul-le-mul-left, mul-lt-mul-of-pos-right, le-of-mul-le-mul-right, lt-of-mul-lt-mul-right, eq-of-mul-eq-mul-right, le-div-iff-mul-le, div-lt-iff-lt-mul, sub-add-cancel, pow-suc, pow-succ'}
 use native.Mathlib.Omega.{arith}
 use mathlib.Core.Bool.{Bool, true, false, not, cond, true≢false, false≢true}
 use lib.Dec.{T, ltb, leb, ltb→lt, nltb→le, lit<, lit≤}
 use lib.Pow.{pow-add, pow-pos, pow-mono, pow-lt}
 use lib.Ieee.{Float, nan, inf, fin, Format, binary64, prec, emax, low, up, down, size, round, add, sub, mul, neg, le, ofBits, toBits, fits}
-use lib.Ieee.Digits.{size-lt, size-le}
-use lib.Ieee.Fits.{down-pos, add-fits, sub-fits, nearest-le}
+use lib.Ieee.Digits.{size-lt, size-le, size-reaches}
+use lib.Ieee.Fits.{down-pos, add-fits, sub-fits, round-fits}
 use lib.Ieee.Bits.{ofBits-toBits, ofBits-fits}
 use lib.Ieee.Exact.{HasValue, round-exact}
 use lib.Ieee.Nearest.{closest, closest-same, closest-mono, div-same}
@@ -19,9 +19,9 @@ use lib.Ieee.Order.{drop, kept}
 use lib.Ieee.Scale.{finite, round-same, round-val}
 use lib.Ieee.Positive.{num, den, den-pos}
 use Rattle.laws.proofs.Order.{posPart, negPart, Le, Le→le, le→Le, Rounds, plus, less, add-rounds, mul-rounds}
-use Rattle.laws.proofs.Relative.{Half, closest-half}
+use Rattle.laws.proofs.Relative.{Half, closest-half, closest-exact}
 use Rattle.laws.proofs.Value.{sign, value-finite, value-same, value-cross}
-use Rattle.laws.proofs.Bits.{infBits, binade-down, toBits-back}
+use Rattle.laws.proofs.Bits.{infBits, unitsOf, bits-value, units-steps, toBits-back}
 use Rattle.laws.proofs.Power.{unique, Digits, digits}
 
 -- ---- a finite value as a signed fraction
@@ -198,3 +198,166 @@ is-mul {P} {N} {c} {P'} {N'} {d} f x y C D i j =
         let k : (p * c + N * u) * a ≡ (P * u + n * c) * a = ap (λ (z : ℕ). z * a) h in
         let l : (p * c + N * u) * b ≡ (P * u + n * c) * b = ap (λ (z : ℕ). z * b) h in
         omega arith
+
+-- ---- exact results: at most 2 ^ 53 steps of 2 ^ j / 2 ^ k
+pub round-steps : (s : Bool) (q j k : ℕ) → q ≤ 2 ^ 53 → k ≤ 1074 → j ≤ 970 + k → HasValue (round binary64 s (q * 2 ^ j) (2 ^ k)) s (q * 2 ^ j) (2 ^ k)
+round-steps s q j k Q K L = elim (eq-or-lt-of-le Q) [
+  | inl e ↦ round-exact binary64 s (q * 2 ^ j) (2 ^ k) 1 (53 + (j + (1074 - k))) (pow-pos k) (lit< tt)
+      (subst (λ (z : ℕ). z < 2 ^ (1074 + 1024)) (sym (one-mul (2 ^ (53 + (j + (1074 - k)))))) (pow-lt (room j k K L)))
+      (scaled q j k K ∙ ap (λ (z : ℕ). z * 2 ^ (j + (1074 - k)) * 2 ^ k) e ∙ ap (λ (z : ℕ). z * 2 ^ k) (sym (pow-add 2 53 (j + (1074 - k))) ∙ sym (one-mul (2 ^ (53 + (j + (1074 - k)))))))
+  | inr l ↦ round-exact binary64 s (q * 2 ^ j) (2 ^ k) q (j + (1074 - k)) (pow-pos k) l
+      (lt-of-lt-of-le (mul-lt-mul-of-pos-right l (pow-pos (j + (1074 - k)))) (le-trans (le-of-eq (sym (pow-add 2 53 (j + (1074 - k))))) (pow-mono (le-of-lt (room j k K L)))))
+      (scaled q j k K)
+]
+  where
+    room : (j k : ℕ) → k ≤ 1074 → j ≤ 970 + k → 53 + (j + (1074 - k)) < 1074 + 1024
+    room j k K L = omega arith
+
+    scaled : (q j k : ℕ) → k ≤ 1074 → q * 2 ^ j * 2 ^ 1074 ≡ q * 2 ^ (j + (1074 - k)) * 2 ^ k
+    scaled q j k K =
+        ap (λ (z : ℕ). q * 2 ^ j * 2 ^ z) (sym (sub-add-cancel K))
+        ∙ ap (λ (z : ℕ). q * 2 ^ j * z) (pow-add 2 (1074 - k) k)
+        ∙ sym (mul-assoc (q * 2 ^ j) (2 ^ (1074 - k)) (2 ^ k))
+        ∙ ap (λ (z : ℕ). z * 2 ^ k) (mul-assoc q (2 ^ j) (2 ^ (1074 - k)) ∙ ap (λ (z : ℕ). q * z) (sym (pow-add 2 j (1074 - k))))
+
+pub rounds-steps : {z : Float} (p n j k : ℕ) → k ≤ 1074 → j ≤ 970 + k → p ≤ n + 2 ^ 53 → n ≤ p + 2 ^ 53 → Rounds binary64 (p * 2 ^ j) (n * 2 ^ j) (2 ^ k) z → Is z (p * 2 ^ j) (n * 2 ^ j) (2 ^ k)
+rounds-steps {z} p n j k K L a b (plus r e g) =
+    let l : n ≤ p = le-of-mul-le-mul-right {k = 2 ^ j} (from r (n * 2 ^ j) (p * 2 ^ j) e) (pow-pos j) in
+    let w : (p - n) * 2 ^ j ≡ r = same (p - n) n p (2 ^ j) r (sub-add-cancel l) e in
+    let v : HasValue z false r (2 ^ k) = subst (λ (t : Float). HasValue t false r (2 ^ k)) (sym g) (subst (λ (t : ℕ). HasValue (round binary64 false t (2 ^ k)) false t (2 ^ k)) w (round-steps false (p - n) j k (few p n a) K L)) in
+    is-same (p * 2 ^ j) (n * 2 ^ j) (2 ^ k) (pow-pos k) (scale r (n * 2 ^ j) (p * 2 ^ j) (2 ^ k) e) (is-plus z r (2 ^ k) v)
+  where
+    from : (r a b : ℕ) → r + a ≡ b → a ≤ b
+    from r a b e = omega arith
+
+    few : (p n : ℕ) → p ≤ n + 2 ^ 53 → p - n ≤ 2 ^ 53
+    few p n a = omega arith
+
+    same : (d n p t r : ℕ) → d + n ≡ p → r + n * t ≡ p * t → d * t ≡ r
+    same d n p t r h e = let k : (d + n) * t ≡ p * t = ap (λ (z : ℕ). z * t) h in omega arith
+
+    scale : (r a b c : ℕ) → r + a ≡ b → r * c + a * c ≡ b * c + 0 * c
+    scale r a b c e = let k : (r + a) * c ≡ b * c = ap (λ (z : ℕ). z * c) e in omega arith
+rounds-steps {z} p n j k K L a b (less r e g) =
+    let l : p ≤ n = le-of-mul-le-mul-right {k = 2 ^ j} (from r (p * 2 ^ j) (n * 2 ^ j) e) (pow-pos j) in
+    let w : (n - p) * 2 ^ j ≡ r = same (n - p) p n (2 ^ j) r (sub-add-cancel l) e in
+    let v : HasValue z true r (2 ^ k) = subst (λ (t : Float). HasValue t true r (2 ^ k)) (sym g) (subst (λ (t : ℕ). HasValue (round binary64 true t (2 ^ k)) true t (2 ^ k)) w (round-steps true (n - p) j k (few n p b) K L)) in
+    is-same (p * 2 ^ j) (n * 2 ^ j) (2 ^ k) (pow-pos k) (scale r (p * 2 ^ j) (n * 2 ^ j) (2 ^ k) e) (is-less z r (2 ^ k) v)
+  where
+    from : (r a b : ℕ) → r + a ≡ b → a ≤ b
+    from r a b e = omega arith
+
+    few : (p n : ℕ) → p ≤ n + 2 ^ 53 → p - n ≤ 2 ^ 53
+    few p n a = omega arith
+
+    same : (d n p t r : ℕ) → d + n ≡ p → r + n * t ≡ p * t → d * t ≡ r
+    same d n p t r h e = let k : (d + n) * t ≡ p * t = ap (λ (z : ℕ). z * t) h in omega arith
+
+    scale : (r a b c : ℕ) → r + a ≡ b → 0 * c + b * c ≡ a * c + r * c
+    scale r a b c e = let k : (r + a) * c ≡ b * c = ap (λ (z : ℕ). z * c) e in omega arith
+
+-- a rounded fraction that is a number of steps
+pub rounds-exact : {z : Float} (P N c p n j k : ℕ) → 0 < c → k ≤ 1074 → j ≤ 970 + k → p ≤ n + 2 ^ 53 → n ≤ p + 2 ^ 53 → P * 2 ^ k + n * 2 ^ j * c ≡ p * 2 ^ j * c + N * 2 ^ k → Rounds binary64 P N c z → Is z P N c
+rounds-exact P N c p n j k C K L a b h r =
+    is-same P N c (pow-pos k) (back (p * 2 ^ j) (n * 2 ^ j) P N c (2 ^ k) h) (rounds-steps p n j k K L a b (rounds-same (p * 2 ^ j) (n * 2 ^ j) (2 ^ k) C (pow-pos k) h r))
+  where
+    back : (p n P N c k : ℕ) → P * k + n * c ≡ p * c + N * k → p * c + N * k ≡ P * k + n * c
+    back p n P N c k h = sym h
+
+-- ---- sums and differences of multiples of a step
+common : (P N c : ℕ) (P' N' : ℕ) → (P * c + P' * c) * c + (N + N') * (c * c) ≡ (P + P') * (c * c) + (N * c + N' * c) * c
+common P N c P' N' = omega arith
+
+pub add-common : {P N c P' N' : ℕ} (f : Format) (x y : Float) → 0 < c → Is x P N c → Is y P' N' c → Rounds f (P + P') (N + N') c (add f x y)
+add-common {P} {N} {c} {P'} {N'} f x y C i j = rounds-same (P + P') (N + N') c (mul-pos C C) C (common P N c P' N') (is-add f x y C C i j)
+
+pub sub-common : {P N c P' N' : ℕ} (f : Format) (x y : Float) → 0 < c → Is x P N c → Is y P' N' c → Rounds f (P + N') (N + P') c (sub f x y)
+unfolding sub
+sub-common f x y C i j = add-common f x (neg y) C i (is-neg y j)
+
+pub add-exact : (p n p' n' j k : ℕ) (x y : Float) → k ≤ 1074 → j ≤ 970 + k → p + p' ≤ n + n' + 2 ^ 53 → n + n' ≤ p + p' + 2 ^ 53
+    → Is x (p * 2 ^ j) (n * 2 ^ j) (2 ^ k) → Is y (p' * 2 ^ j) (n' * 2 ^ j) (2 ^ k) → Is (add binary64 x y) ((p + p') * 2 ^ j) ((n + n') * 2 ^ j) (2 ^ k)
+add-exact p n p' n' j k x y K L a b i i' =
+    rounds-steps (p + p') (n + n') j k K L a b
+    (subst (λ (t : ℕ). Rounds binary64 t ((n + n') * 2 ^ j) (2 ^ k) (add binary64 x y)) (sym (add-mul p p' (2 ^ j)))
+    (subst (λ (t : ℕ). Rounds binary64 (p * 2 ^ j + p' * 2 ^ j) t (2 ^ k) (add binary64 x y)) (sym (add-mul n n' (2 ^ j))) (add-common binary64 x y (pow-pos k) i i')))
+
+pub sub-exact : (p n p' n' j k : ℕ) (x y : Float) → k ≤ 1074 → j ≤ 970 + k → p + n' ≤ n + p' + 2 ^ 53 → n + p' ≤ p + n' + 2 ^ 53
+    → Is x (p * 2 ^ j) (n * 2 ^ j) (2 ^ k) → Is y (p' * 2 ^ j) (n' * 2 ^ j) (2 ^ k) → Is (sub binary64 x y) ((p + n') * 2 ^ j) ((n + p') * 2 ^ j) (2 ^ k)
+unfolding sub
+sub-exact p n p' n' j k x y K L a b i i' = add-exact p n n' p' j k x (neg y) K L a b i (is-neg y i')
+
+-- with the step 1 / 2 ^ k
+pub add-fine : {p n p' n' k : ℕ} (x y : Float) → k ≤ 1074 → p + p' ≤ n + n' + 2 ^ 53 → n + n' ≤ p + p' + 2 ^ 53 → Is x p n (2 ^ k) → Is y p' n' (2 ^ k) → Is (add binary64 x y) (p + p') (n + n') (2 ^ k)
+add-fine {p} {n} {p'} {n'} {k} x y K a b i i' =
+    rounds-exact (p + p') (n + n') (2 ^ k) (p + p') (n + n') 0 k (pow-pos k) K zero-le a b (once (p + p') (n + n') (2 ^ k)) (add-common binary64 x y (pow-pos k) i i')
+  where
+    once : (p n t : ℕ) → p * t + n * 1 * t ≡ p * 1 * t + n * t
+    once p n t = omega arith
+
+pub sub-fine : {p n p' n' k : ℕ} (x y : Float) → k ≤ 1074 → p + n' ≤ n + p' + 2 ^ 53 → n + p' ≤ p + n' + 2 ^ 53 → Is x p n (2 ^ k) → Is y p' n' (2 ^ k) → Is (sub binary64 x y) (p + n') (n + p') (2 ^ k)
+unfolding sub
+sub-fine x y K a b i i' = add-fine x (neg y) K a b i (is-neg y i')
+
+-- ---- rounding in a binade of step 1 / 2 ^ k: to the nearest multiple of the step
+pow-lt-back : (i p : ℕ) → 2 ^ i < 2 ^ p → i < p
+pow-lt-back i p h = lt-of-not-le (λ (g : p ≤ i). lt-irrefl (2 ^ i) (lt-of-lt-of-le h (pow-mono g)))
+
+size-is : (a n : ℕ) → 2 ^ a ≤ n → n < 2 ^ suc a → size n ≡ suc a
+size-is a n lo hi = equal a (size n) (size-le n (suc a) hi) (pow-lt-back a (size n) (lt-of-le-of-lt lo (size-lt n)))
+  where
+    equal : (a z : ℕ) → z ≤ suc a → a < z → z ≡ suc a
+    equal a z h k = omega arith
+
+nearest-low : (n c : ℕ) → 0 < c → 2 ^ 52 * c ≤ n → 2 ^ 52 ≤ closest n c
+nearest-low n c C h = le-trans (le-of-eq (sym (closest-exact (2 ^ 52) c C))) (closest-mono (2 ^ 52 * c) c n c C C (mul-le-mul-right c h))
+
+nearest-high : (n c : ℕ) → 0 < c → n ≤ 2 ^ 53 * c → closest n c ≤ 2 ^ 53
+nearest-high n c C h = le-trans (closest-mono n c (2 ^ 53 * c) c C C (mul-le-mul-right c h)) (le-of-eq (closest-exact (2 ^ 53) c C))
+
+-- 2 ^ 1074 as the step's inverse and the step in units
+whole-units : (k : ℕ) → k ≤ 1074 → 2 ^ (1074 - k) * 2 ^ k ≡ 2 ^ 1074
+whole-units k K = sym (pow-add 2 (1074 - k) k) ∙ ap (λ (z : ℕ). 2 ^ z) (sub-add-cancel K)
+
+inside : (n c k : ℕ) → 0 < c → k ≤ 1074 → 2 ^ 52 * c ≤ n → n < 2 ^ 53 * c → HasValue (round binary64 false n (2 ^ k * c)) false (closest n c) (2 ^ k)
+inside n c k C K lo hi =
+    let j = 1074 - k in
+    let d = 2 ^ k * c in
+    let w : 2 ^ j * 2 ^ k ≡ 2 ^ 1074 = whole-units k K in
+    let a : 2 ^ (52 + j) * d ≤ n * 2 ^ 1074 = le-trans (le-of-eq (ap (λ (z : ℕ). z * d) (pow-add 2 52 j) ∙ shuffle (2 ^ 52) (2 ^ j) (2 ^ k) c ∙ ap (λ (z : ℕ). 2 ^ 52 * c * z) w)) (mul-le-mul-right (2 ^ 1074) lo) in
+    let b : n * 2 ^ 1074 < 2 ^ suc (52 + j) * d = subst (λ (z : ℕ). n * 2 ^ 1074 < 2 ^ z * d) (suc-add 52 j) (lt-of-lt-of-le (mul-lt-mul-of-pos-right hi (pow-pos 1074)) (le-of-eq (sym (ap (λ (z : ℕ). z * d) (pow-add 2 53 j) ∙ shuffle (2 ^ 53) (2 ^ j) (2 ^ k) c ∙ ap (λ (z : ℕ). 2 ^ 53 * c * z) w)))) in
+    let D : 0 < d = mul-pos (pow-pos k) C in
+    let e : size (n * 2 ^ 1074 / d) ≡ suc (52 + j) = size-is (52 + j) (n * 2 ^ 1074 / d) (le-div-iff-mul-le D .1 a) (div-lt-iff-lt-mul D .1 b) in
+    let g : drop 53 (n * 2 ^ 1074) d ≡ j = ap (λ (z : ℕ). z - 53) e ∙ off j in
+    let q : kept 53 (n * 2 ^ 1074) d * 2 ^ drop 53 (n * 2 ^ 1074) d ≡ closest n c * 2 ^ j =
+    ap (λ (z : ℕ). closest (n * 2 ^ 1074) (d * 2 ^ z) * 2 ^ z) g
+    ∙ ap (λ (z : ℕ). z * 2 ^ j) (closest-same (n * 2 ^ 1074) (d * 2 ^ j) n c (mul-pos D (pow-pos j)) C (ap (λ (z : ℕ). n * z * c) (sym w) ∙ same n (2 ^ j) (2 ^ k) c)) in
+    let u : closest n c * 2 ^ j < 2 ^ 2098 =
+    lt-of-le-of-lt (mul-le-mul-right (2 ^ j) (nearest-high n c C (le-of-lt hi))) (subst (λ (z : ℕ). z < 2 ^ 2098) (pow-add 2 53 j) (pow-lt (under j k))) in
+    value-same (round binary64 false n d) false (closest n c * 2 ^ j) (2 ^ 1074) (closest n c) (2 ^ k) (pow-pos 1074)
+    (mul-assoc (closest n c) (2 ^ j) (2 ^ k) ∙ ap (λ (z : ℕ). closest n c * z) w)
+    (subst (λ (z : ℕ). HasValue (round binary64 false n d) false z (2 ^ 1074)) q (round-val binary64 n d (subst (λ (z : ℕ). z < 2 ^ 2098) (sym q) u)))
+  where
+    shuffle : (p a b c : ℕ) → p * a * (b * c) ≡ p * c * (a * b)
+    shuffle p a b c = mul-mul-mul-comm p a b c ∙ ap (λ (z : ℕ). p * b * z) (mul-comm a c) ∙ mul-mul-mul-comm p b c a ∙ ap (λ (z : ℕ). p * c * z) (mul-comm b a)
+
+    same : (n a b c : ℕ) → n * (a * b) * c ≡ n * (b * c * a)
+    same n a b c = mul-assoc n (a * b) c ∙ ap (λ (z : ℕ). n * z) (mul-assoc a b c ∙ mul-comm a (b * c))
+
+    off : (j : ℕ) → suc (52 + j) - 53 ≡ j
+    off j = omega arith
+
+    under : (j k : ℕ) → 53 + (1074 - k) < 2098
+    under j k = omega arith
+
+pub round-binade : (n c k : ℕ) → 0 < c → k ≤ 1074 → 2 ^ 52 * c ≤ n → n ≤ 2 ^ 53 * c → HasValue (round binary64 false n (2 ^ k * c)) false (closest n c) (2 ^ k)
+round-binade n c k C K lo hi = elim (eq-or-lt-of-le hi) [
+  | inl e ↦
+      let z : round binary64 false n (2 ^ k * c) ≡ round binary64 false (2 ^ 53 * 2 ^ 0) (2 ^ k) = round-same binary64 false n (2 ^ k * c) (2 ^ 53 * 2 ^ 0) (2 ^ k) (mul-pos (pow-pos k) C) (pow-pos k) (ap (λ (y : ℕ). y * 2 ^ k) e ∙ turned c (2 ^ k)) in
+      let q : 2 ^ 53 ≡ closest n c = sym (ap (λ (y : ℕ). closest y c) e ∙ closest-exact (2 ^ 53) c C) in
+      subst (λ (y : ℕ). HasValue (round binary64 false n (2 ^ k * c)) false y (2 ^ k)) q (subst (λ (y : Float). HasValue y false (2 ^ 53) (2 ^ k)) (sym z) (round-steps false (2 ^ 53) 0 k (lit≤ tt) K zero-le))
+  | inr l ↦ inside n c k C K lo l
+]
+  where
+    turned : (c t : ℕ) → 2 ^ 53 * c * t ≡ 2 ^ 53 * 2 ^ 0 * (t * c)
+    turned c t = omega arith

@@ -299,14 +299,14 @@ num-above Q P a c x d q A D h = first-pos x c (second-pos P (x * c) (lt-of-lt-of
     second-pos : (n u : ℕ) → 0 < n * u → 0 < u
     second-pos n u g = first-pos u n (subst (λ (k : ℕ). 0 < k) (mul-comm n u) g)
 
-more-than-one : (f : Format) → 0 < 2 ^ prec f - 1
-more-than-one binary32 = lit< tt
-more-than-one binary64 = lit< tt
+pub ones-pos : (f : Format) → 0 < 2 ^ prec f - 1
+ones-pos binary32 = lit< tt
+ones-pos binary64 = lit< tt
 
 pub round-positive : (f : Format) (a c : ℕ) (z : Float) → 0 < c → Normal f a c → z ≡ round f false a c → T (finite z) → T (positive z)
 round-positive f a c z C N e t =
     positive-of-num z (round-nonnegative f a c z e t)
-    (num-above (2 ^ prec f - 1) (2 ^ prec f) a c (num z) (den z) (more-than-one f) (first-pos a (2 ^ (emax f - 1)) (lt-of-lt-of-le C N)) (den-pos z) (round-close f a c z C N e t .lower))
+    (num-above (2 ^ prec f - 1) (2 ^ prec f) a c (num z) (den z) (ones-pos f) (first-pos a (2 ^ (emax f - 1)) (lt-of-lt-of-le C N)) (den-pos z) (round-close f a c z C N e t .lower))
 
 -- ---- the operations on values with no minus sign, as rounded fractions
 pub mul-round : (f : Format) (x y : Float) → T (nonnegative x) → T (nonnegative y) → mul f x y ≡ round f false (num x * num y) (den x * den y)

@@ -1,9 +1,6 @@
 /* The C boundary's bits: each line of the table is a routine, its argument's bits (two for hypot and angle) and the bits that it must return.
    Every pattern of a not-a-number is an argument too, and the one returned is always 7FF8000000000000. Lines that begin with '#' are remarks. */
-#include <inttypes.h>
-#include <stdint.h>
-#include <stdio.h>
-#include <string.h>
+#include "libc.h"
 
 #define UNARY(name) double lichenoar_##name(double);
 UNARY(sqrt) UNARY(exp) UNARY(ln) UNARY(sin) UNARY(cos) UNARY(sinh) UNARY(cosh) UNARY(sin_pi) UNARY(cos_pi) UNARY(round)
@@ -22,30 +19,18 @@ static const struct {
 
 enum { COUNT = sizeof routines / sizeof *routines };
 
-static double value(uint64_t b) {
-    double x;
-    memcpy(&x, &b, 8);
-    return x;
-}
-
-static uint64_t bits(double x) {
-    uint64_t b;
-    memcpy(&b, &x, 8);
-    return b;
-}
-
 /* Patterns of a not-a-number, quiet and signalling, of both signs: one a place of the fraction, and the full ones. */
 static int not_a_number(int i) {
     int bad = 0;
     for (int place = 0; place < 52; place++) {
         for (int full = 0; full < 2; full++) {
             for (int sign = 0; sign < 2; sign++) {
-                uint64_t fraction = full ? (UINT64_C(2) << place) - 1 : UINT64_C(1) << place;
-                double x = value((uint64_t)sign << 63 | UINT64_C(0x7FF0000000000000) | fraction);
+                uint64_t fraction = full ? (2UL << place) - 1 : 1UL << place;
+                double x = value_of((uint64_t)sign << 63 | 0x7FF0000000000000UL | fraction);
                 double got = routines[i].two ? routines[i].two(x, 1.0) : routines[i].one(x);
                 double other = routines[i].two ? routines[i].two(1.0, x) : got;
-                if (bits(got) != UINT64_C(0x7FF8000000000000) || bits(other) != UINT64_C(0x7FF8000000000000)) {
-                    printf("%s of the pattern %016" PRIX64 " gives %016" PRIX64 " and %016" PRIX64 "\n", routines[i].name, bits(x), bits(got), bits(other));
+                if (bits_of(got) != 0x7FF8000000000000UL || bits_of(other) != 0x7FF8000000000000UL) {
+                    printf("%s of the pattern %016lX gives %016lX and %016lX\n", routines[i].name, bits_of(x), bits_of(got), bits_of(other));
                     bad = 1;
                 }
             }
@@ -57,7 +42,7 @@ static int not_a_number(int i) {
 int main(int argc, char **argv) {
     FILE *f = argc == 2 ? fopen(argv[1], "r") : 0;
     if (!f) {
-        fprintf(stderr, "usage: boundary TABLE\n");
+        printf("usage: boundary TABLE\n");
         return 2;
     }
     int bad = 0;
@@ -67,7 +52,7 @@ int main(int argc, char **argv) {
         char name[32];
         uint64_t b[3];
         if (line[0] == '#' || line[0] == '\n') continue;
-        int n = sscanf(line, "%31s %" SCNx64 " %" SCNx64 " %" SCNx64, name, &b[0], &b[1], &b[2]);
+        int n = sscanf(line, "%31s %lx %lx %lx", name, &b[0], &b[1], &b[2]);
         int i = 0;
         while (i < COUNT && strcmp(name, routines[i].name)) i++;
         if (i == COUNT || n != (routines[i].two ? 4 : 3)) {
@@ -75,9 +60,9 @@ int main(int argc, char **argv) {
             bad = 1;
             continue;
         }
-        double got = routines[i].two ? routines[i].two(value(b[0]), value(b[1])) : routines[i].one(value(b[0]));
-        if (bits(got) != b[n - 2]) {
-            printf("boundary: gives %016" PRIX64 ": %s", bits(got), line);
+        double got = routines[i].two ? routines[i].two(value_of(b[0]), value_of(b[1])) : routines[i].one(value_of(b[0]));
+        if (bits_of(got) != b[n - 2]) {
+            printf("boundary: gives %016lX: %s", bits_of(got), line);
             bad = 1;
         }
         lines++;

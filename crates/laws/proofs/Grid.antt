@@ -4,22 +4,22 @@
 use mathlib.Core.Path.{_≡_, refl, sym, ap, ap₂, _∙_, subst}
 use mathlib.Core.Logic.{_⊎_, inl, inr}
 use Prim.Native.Nat.{ℕ, zero, suc, _+_, _-_, _*_, _/_, _%_, _^_, _≤_, _<_, zero-le}
-use native.Mathlib.Nat.{le-trans, le-of-eq, le-of-lt, lt-of-lt-of-le, lt-of-le-of-lt, lt-irrefl, not-le-of-lt, lt-of-not-le, eq-or-lt-of-le, zero-lt-suc, add-zero, zero-add, suc-add, mul-one, one-mul, zero-mul, mul-pos, mul-assoc, mul-comm, mul-left-comm, mul-right-comm, mul-mul-mul-comm, mul-add, add-mul, mul-le-mul-right, mul-le-mul-left, mul-lt-mul-of-pos-right, le-of-mul-le-mul-right, lt-of-mul-lt-mul-right, eq-of-mul-eq-mul-right, le-div-iff-mul-le, div-lt-iff-lt-mul, sub-add-cancel, pow-suc, pow-succ'}
+use native.Mathlib.Nat.{le-trans, le-of-eq, le-of-lt, lt-of-lt-of-le, lt-of-le-of-lt, lt-irrefl, not-le-of-lt, lt-of-not-le, eq-or-lt-of-le, zero-lt-suc, add-zero, zero-add, suc-add, suc-mul, mul-one, one-mul, zero-mul, mul-pos, mul-assoc, mul-comm, mul-left-comm, mul-right-comm, mul-mul-mul-comm, mul-add, add-mul, mul-le-mul-right, mul-le-mul-left, mul-lt-mul-of-pos-right, le-of-mul-le-mul-right, lt-of-mul-lt-mul-right, eq-of-mul-eq-mul-right, le-div-iff-mul-le, div-lt-iff-lt-mul, sub-add-cancel, pow-suc, pow-succ'}
 use native.Mathlib.Omega.{arith}
 use mathlib.Core.Bool.{Bool, true, false, not, cond, true≢false, false≢true}
 use lib.Dec.{T, ltb, leb, ltb→lt, nltb→le, lit<, lit≤}
 use lib.Pow.{pow-add, pow-pos, pow-mono, pow-lt}
-use lib.Ieee.{Float, nan, inf, fin, Format, binary64, prec, emax, low, up, down, size, round, add, sub, mul, neg, le, ofBits, toBits, fits}
+use lib.Ieee.{Float, nan, inf, fin, Format, binary64, prec, emax, low, up, down, size, odd, units, round, add, sub, mul, neg, le, ofBits, toBits, fits}
 use lib.Ieee.Digits.{size-lt, size-le, size-reaches}
-use lib.Ieee.Fits.{down-pos, add-fits, sub-fits, round-fits}
+use lib.Ieee.Fits.{down-pos, add-fits, sub-fits, round-fits, round-is}
 use lib.Ieee.Bits.{ofBits-toBits, ofBits-fits}
 use lib.Ieee.Exact.{HasValue, round-exact}
 use lib.Ieee.Nearest.{closest, closest-same, closest-mono, div-same}
-use lib.Ieee.Order.{drop, kept}
+use lib.Ieee.Order.{drop, kept, transfer}
 use lib.Ieee.Scale.{finite, round-same, round-val}
-use lib.Ieee.Positive.{num, den, den-pos}
+use lib.Ieee.Positive.{num, den, den-pos, value→cross}
 use Rattle.laws.proofs.Order.{posPart, negPart, Le, Le→le, le→Le, Rounds, plus, less, add-rounds, mul-rounds}
-use Rattle.laws.proofs.Relative.{Half, closest-half, closest-exact}
+use Rattle.laws.proofs.Relative.{closest-half, closest-exact, nonnegative-of-value, sub-round}
 use Rattle.laws.proofs.Value.{sign, value-finite, value-same, value-cross}
 use Rattle.laws.proofs.Bits.{infBits, unitsOf, bits-value, units-steps, toBits-back}
 use Rattle.laws.proofs.Power.{unique, Digits, digits}
@@ -361,3 +361,349 @@ round-binade n c k C K lo hi = elim (eq-or-lt-of-le hi) [
   where
     turned : (c t : ℕ) → 2 ^ 53 * c * t ≡ 2 ^ 53 * 2 ^ 0 * (t * c)
     turned c t = omega arith
+
+-- ---- the sum t = M + x in a binade of step 1 / 2 ^ k, where M is μ steps and x is (P - N) / c: t is q steps, the nearest to the sum
+pub record Snapped (P N c μ k : ℕ) (t : Float) : Type 0 where
+  pub q : ℕ
+  pub lowest : 2 ^ 52 ≤ q
+  pub highest : q ≤ 2 ^ 53
+  pub value : HasValue t false q (2 ^ k)
+  pub bits : toBits binary64 t ≡ (1074 - k) * 2 ^ 52 + q
+  pub above : 2 * (q * c + N * 2 ^ k) ≤ 2 * (P * 2 ^ k + μ * c) + c
+  pub below : 2 * (P * 2 ^ k + μ * c) ≤ 2 * (q * c + N * 2 ^ k) + c
+
+steps-bits : (q k : ℕ) (t : Float) → k ≤ 1074 → 2 ^ 52 ≤ q → q ≤ 2 ^ 53 → T (fits binary64 t) → HasValue t false q (2 ^ k) → toBits binary64 t ≡ (1074 - k) * 2 ^ 52 + q
+steps-bits q k t K lo hi F v =
+    let b = (1074 - k) * 2 ^ 52 + q in
+    ap (toBits binary64)
+    (unique binary64 t (ofBits binary64 b) false q (2 ^ k) (unitsOf b) (2 ^ 1074) (pow-pos k) (pow-pos 1074) F (ofBits-fits binary64 b) v (bits-value b (within k q hi))
+    (sym (ap (λ (z : ℕ). z * 2 ^ k) (units-steps (1074 - k) q lo hi) ∙ mul-assoc q (2 ^ (1074 - k)) (2 ^ k) ∙ ap (λ (z : ℕ). q * z) (whole-units k K))))
+    ∙ toBits-back b (le-of-lt (within k q hi))
+  where
+    within : (k q : ℕ) → q ≤ 2 ^ 53 → (1074 - k) * 2 ^ 52 + q < infBits
+    within k q h = omega arith
+
+pub snap-of : {t : Float} (P N c μ k : ℕ) → 0 < c → k ≤ 1074 → 2 ^ 52 * c + N * 2 ^ k ≤ P * 2 ^ k + μ * c → P * 2 ^ k + μ * c ≤ 2 ^ 53 * c + N * 2 ^ k
+    → Rounds binary64 (P * 2 ^ k + μ * c) (N * 2 ^ k) (2 ^ k * c) t → Snapped P N c μ k t
+snap-of {t} P N c μ k C K lo hi (plus a e g) =
+    let l : 2 ^ 52 * c ≤ a = omega arith in
+    let h : a ≤ 2 ^ 53 * c = omega arith in
+    let v : HasValue t false (closest a c) (2 ^ k) = subst (λ (z : Float). HasValue z false (closest a c) (2 ^ k)) (sym g) (round-binade a c k C K l h) in
+    let r = closest-half a c C in
+    let r0 = r .0 in
+    let r1 = r .1 in
+    record {
+      q = closest a c;
+      lowest = nearest-low a c C l;
+      highest = nearest-high a c C h;
+      value = v;
+      bits = steps-bits (closest a c) k t K (nearest-low a c C l) (nearest-high a c C h) (subst (λ (z : Float). T (fits binary64 z)) (sym g) (round-fits binary64 false a (2 ^ k * c))) v;
+      above = omega arith;
+      below = omega arith;
+    }
+snap-of {t} P N c μ k C K lo hi (less a e g) = absurd (omega arith)
+
+module _ (P N c μ k : ℕ) (M x : Float) (C : 0 < c) (K : k ≤ 1074) (m : HasValue M false μ (2 ^ k)) (i : Is x P N c) (lo : 2 ^ 52 * c + N * 2 ^ k ≤ P * 2 ^ k + μ * c) (hi : P * 2 ^ k + μ * c ≤ 2 ^ 53 * c + N * 2 ^ k) where
+  pub snap-left : Snapped P N c μ k (add binary64 M x)
+  snap-left =
+      snap-of P N c μ k C K lo hi
+      (rounds-same (P * 2 ^ k + μ * c) (N * 2 ^ k) (2 ^ k * c) (mul-pos (pow-pos k) C) (mul-pos (pow-pos k) C) (same (P * 2 ^ k) (μ * c) (N * 2 ^ k) c (2 ^ k * c)) (is-add binary64 M x (pow-pos k) C (is-plus M μ (2 ^ k) m) i))
+    where
+      same : (a b n c d : ℕ) → (b + a) * d + n * d ≡ (a + b) * d + (0 * c + n) * d
+      same a b n c d = omega arith
+
+  pub snap-right : Snapped P N c μ k (add binary64 x M)
+  snap-right =
+      snap-of P N c μ k C K lo hi
+      (rounds-same (P * 2 ^ k + μ * c) (N * 2 ^ k) (2 ^ k * c) (mul-pos C (pow-pos k)) (mul-pos (pow-pos k) C) (same (P * 2 ^ k) (μ * c) (N * 2 ^ k) c (2 ^ k)) (is-add binary64 x M C (pow-pos k) i (is-plus M μ (2 ^ k) m)))
+    where
+      same : (a b n c t : ℕ) → (a + b) * (t * c) + n * (c * t) ≡ (a + b) * (c * t) + (n + 0 * c) * (t * c)
+      same a b n c t = omega arith
+
+-- whole bounds of the sum are bounds of q
+pub snap-most : {P N c μ k : ℕ} {t : Float} (S : Snapped P N c μ k t) (B : ℕ) → 0 < c → P * 2 ^ k + μ * c ≤ B * c + N * 2 ^ k → S .q ≤ B
+snap-most {P} {N} {c} {μ} {k} S B C h = go (S .q) (le-of-mul-le-mul-right {k = c} (twice (S .q) (P * 2 ^ k + μ * c) (N * 2 ^ k) h (S .above)) C)
+  where
+    go : (q : ℕ) → 2 * q ≤ 2 * B + 1 → q ≤ B
+    go q h = omega arith
+
+    twice : (q s n : ℕ) → s ≤ B * c + n → 2 * (q * c + n) ≤ 2 * s + c → 2 * q * c ≤ (2 * B + 1) * c
+    twice q s n a b = omega arith
+
+pub snap-least : {P N c μ k : ℕ} {t : Float} (S : Snapped P N c μ k t) (B : ℕ) → 0 < c → B * c + N * 2 ^ k ≤ P * 2 ^ k + μ * c → B ≤ S .q
+snap-least {P} {N} {c} {μ} {k} S B C h = go (S .q) (le-of-mul-le-mul-right {k = c} (twice (S .q) (P * 2 ^ k + μ * c) (N * 2 ^ k) h (S .below)) C)
+  where
+    go : (q : ℕ) → 2 * B ≤ 2 * q + 1 → B ≤ q
+    go q h = omega arith
+
+    twice : (q s n : ℕ) → B * c + n ≤ s → 2 * s ≤ 2 * (q * c + n) + c → 2 * B * c ≤ (2 * q + 1) * c
+    twice q s n a b = omega arith
+
+-- ---- M comes off exactly
+pub snap-sub : {P N c μ k : ℕ} (t M : Float) (S : Snapped P N c μ k t) → k ≤ 1074 → μ ≤ 2 ^ 53 → HasValue M false μ (2 ^ k) → Is (sub binary64 t M) (S .q) μ (2 ^ k)
+snap-sub {P} {N} {c} {μ} {k} t M S K h m =
+    let q = S .q in
+    let u : q ≤ 2 ^ 53 = S .highest in
+    subst (λ (z : ℕ). Is (sub binary64 t M) z μ (2 ^ k)) (add-zero q)
+    (subst (λ (z : ℕ). Is (sub binary64 t M) (q + 0) z (2 ^ k)) (zero-add μ) (sub-fine t M K (few q μ u) (few' q μ h) (is-plus t q (2 ^ k) (S .value)) (is-plus M μ (2 ^ k) m)))
+  where
+    few : (q μ : ℕ) → q ≤ 2 ^ 53 → q + 0 ≤ 0 + μ + 2 ^ 53
+    few q μ h = omega arith
+
+    few' : (q μ : ℕ) → μ ≤ 2 ^ 53 → 0 + μ ≤ q + 0 + 2 ^ 53
+    few' q μ h = omega arith
+
+-- the same, with its sign, where the sum is no less than M
+sign-odd : (d : ℕ) (s : Bool) (q k l : ℕ) → sign (odd d s q k l) ≡ s
+unfolding odd
+sign-odd d s zero k l = refl
+sign-odd d s (suc q) k l = refl
+
+pub round-sign : (f : Format) (s : Bool) (a c : ℕ) → sign (round f s a c) ≡ s
+unfolding units
+round-sign f s a c = ap sign (round-is f s a c) ∙ go (kept (prec f) (a * 2 ^ low f) c) (drop (prec f) (a * 2 ^ low f) c)
+  where
+    go : (q k : ℕ) → sign (units f s q k) ≡ s
+    go q k = pick (ltb (q * 2 ^ k) (2 ^ (low f + suc (emax f))))
+      where
+        pick : (b : Bool) → sign (cond b (odd (suc (prec f)) s q k (low f)) (inf s)) ≡ s
+        pick true = sign-odd (suc (prec f)) s q k (low f)
+        pick false = refl
+
+pub is-value-sign : {P N c : ℕ} (x : Float) → Is x P N c → sign x ≡ false → N ≤ P → HasValue x false (P - N) c
+is-value-sign nan i s h = absurd (i .bounded)
+is-value-sign (inf t) i s h = absurd (i .bounded)
+is-value-sign (fin true m e) i s h = absurd (true≢false s)
+is-value-sign {P} {N} {c} (fin false m e) i s h = let k = i .cross in (refl, lit (m * up e * c) (P - N) N P (down e) (sub-add-cancel h) (omega arith))
+  where
+    lit : (a b n p d : ℕ) → b + n ≡ p → a + n * d ≡ p * d → a ≡ b * d
+    lit a b n p d e k = let l : (b + n) * d ≡ p * d = ap (λ (z : ℕ). z * d) e in omega arith
+
+pub snap-sub-value : {P N c μ k : ℕ} (t M : Float) (S : Snapped P N c μ k t) → k ≤ 1074 → HasValue M false μ (2 ^ k) → μ ≤ S .q → HasValue (sub binary64 t M) false (S .q - μ) (2 ^ k)
+snap-sub-value {P} {N} {c} {μ} {k} t M S K m h =
+    is-value-sign (sub binary64 t M) (snap-sub t M S K (le-trans h (S .highest)) m)
+    (ap sign (sub-round binary64 t M (nonnegative-of-value t (S .q) (2 ^ k) (S .value)) (nonnegative-of-value M μ (2 ^ k) m) (order t M (S .q) μ (2 ^ k) (pow-pos k) (S .value) m h))
+    ∙ round-sign binary64 false (num t * den M - num M * den t) (den t * den M))
+    h
+  where
+    order : (t M : Float) (q μ c : ℕ) → 0 < c → HasValue t false q c → HasValue M false μ c → μ ≤ q → num M * den t ≤ num t * den M
+    order t M q μ c C v w h = transfer (num M) (num t) (den M) (den t) μ q c c C C (value→cross M μ c w) (value→cross t q c v) (mul-le-mul-right c h)
+
+-- ---- and what x is more than that is exact too
+pub is-cross : {P N c P' N' d : ℕ} (x : Float) → Is x P N c → Is x P' N' d → P * d + N' * c ≡ P' * c + N * d
+is-cross {P} {N} {c} {P'} {N'} {d} x i j =
+    let u = den x in
+    let k : (posPart x * c + N * u) * d ≡ (P * u + negPart x * c) * d = ap (λ (z : ℕ). z * d) (i .cross) in
+    let l : (posPart x * d + N' * u) * c ≡ (P' * u + negPart x * d) * c = ap (λ (z : ℕ). z * c) (j .cross) in
+    eq-of-mul-eq-mul-right u (den-pos x) (P * d + N' * c) (P' * c + N * d) (omega arith)
+
+-- the digits of x with its sign: p or n is 0
+record Parts (x : Float) : Type 0 where
+  p : ℕ
+  n : ℕ
+  i : ℕ
+  few : p + n < 2 ^ 53
+  is : Is x (p * 2 ^ i) (n * 2 ^ i) (2 ^ 1074)
+
+parts : (x : Float) → T (fits binary64 x) → T (finite x) → Parts x
+parts x F f = let D = digits x F f in go (sign x) (D .q) (D .j) (D .few) (D .value)
+  where
+    go : (s : Bool) (q j : ℕ) → q < 2 ^ 53 → HasValue x s (q * 2 ^ j) (2 ^ 1074) → Parts x
+    go false q j h v =
+        record { p = q; n = 0; i = j; few = omega arith; is = subst (λ (z : ℕ). Is x (q * 2 ^ j) z (2 ^ 1074)) (sym (zero-mul (2 ^ j))) (is-plus x (q * 2 ^ j) (2 ^ 1074) v) }
+    go true q j h v =
+        record { p = 0; n = q; i = j; few = omega arith; is = subst (λ (z : ℕ). Is x z (q * 2 ^ j) (2 ^ 1074)) (sym (zero-mul (2 ^ j))) (is-less x (q * 2 ^ j) (2 ^ 1074) v) }
+
+-- the closeness in units: Y = 2 ^ i and A = 2 ^ (1074 - k) are the steps of x and of the grid, U the units in 1
+units-above : (P N c μ q t A U Y p n : ℕ) → 0 < c → A * t ≡ U → P * U + n * Y * c ≡ p * Y * c + N * U → 2 * (q * c + N * t) ≤ 2 * (P * t + μ * c) + c → 2 * (q * A + n * Y) ≤ 2 * (p * Y + μ * A) + A
+units-above P N c μ q t A U Y p n C w e h =
+    let a : (2 * (q * c + N * t)) * A ≤ (2 * (P * t + μ * c) + c) * A = mul-le-mul-right A h in
+    let b : N * (A * t) ≡ N * U = ap (λ (z : ℕ). N * z) w in
+    let d : P * (A * t) ≡ P * U = ap (λ (z : ℕ). P * z) w in
+    le-of-mul-le-mul-right {k = c} (omega arith) C
+
+units-below : (P N c μ q t A U Y p n : ℕ) → 0 < c → A * t ≡ U → P * U + n * Y * c ≡ p * Y * c + N * U → 2 * (P * t + μ * c) ≤ 2 * (q * c + N * t) + c → 2 * (p * Y + μ * A) ≤ 2 * (q * A + n * Y) + A
+units-below P N c μ q t A U Y p n C w e h =
+    let a : (2 * (P * t + μ * c)) * A ≤ (2 * (q * c + N * t) + c) * A = mul-le-mul-right A h in
+    let b : N * (A * t) ≡ N * U = ap (λ (z : ℕ). N * z) w in
+    let d : P * (A * t) ≡ P * U = ap (λ (z : ℕ). P * z) w in
+    le-of-mul-le-mul-right {k = c} (omega arith) C
+
+-- x is a multiple of the grid's step: nothing is left
+coarse : (q μ p n A B Y : ℕ) → 0 < A → Y ≡ B * A → 2 * (q * A + n * Y) ≤ 2 * (p * Y + μ * A) + A → 2 * (p * Y + μ * A) ≤ 2 * (q * A + n * Y) + A → p * Y + μ * A ≡ n * Y + q * A
+coarse q μ p n A B Y P e h k =
+    let a : (2 * (q + n * B)) * A ≤ (2 * (p * B + μ) + 1) * A = le-trans (le-of-eq (left q n A B Y e)) (le-trans h (le-of-eq (right p μ A B Y e))) in
+    let b : (2 * (p * B + μ)) * A ≤ (2 * (q + n * B) + 1) * A = le-trans (le-of-eq (left' p μ A B Y e)) (le-trans k (le-of-eq (right' q n A B Y e))) in
+    join (same (q + n * B) (p * B + μ) (le-of-mul-le-mul-right a P) (le-of-mul-le-mul-right b P))
+  where
+    left : (q n A B Y : ℕ) → Y ≡ B * A → (2 * (q + n * B)) * A ≡ 2 * (q * A + n * Y)
+    left q n A B Y e = let l : n * Y ≡ n * (B * A) = ap (λ (z : ℕ). n * z) e in omega arith
+
+    right : (p μ A B Y : ℕ) → Y ≡ B * A → 2 * (p * Y + μ * A) + A ≡ (2 * (p * B + μ) + 1) * A
+    right p μ A B Y e = let l : p * Y ≡ p * (B * A) = ap (λ (z : ℕ). p * z) e in omega arith
+
+    left' : (p μ A B Y : ℕ) → Y ≡ B * A → (2 * (p * B + μ)) * A ≡ 2 * (p * Y + μ * A)
+    left' p μ A B Y e = let l : p * Y ≡ p * (B * A) = ap (λ (z : ℕ). p * z) e in omega arith
+
+    right' : (q n A B Y : ℕ) → Y ≡ B * A → 2 * (q * A + n * Y) + A ≡ (2 * (q + n * B) + 1) * A
+    right' q n A B Y e = let l : n * Y ≡ n * (B * A) = ap (λ (z : ℕ). n * z) e in omega arith
+
+    same : (a b : ℕ) → 2 * a ≤ 2 * b + 1 → 2 * b ≤ 2 * a + 1 → a ≡ b
+    same a b h k = omega arith
+
+    join : q + n * B ≡ p * B + μ → p * Y + μ * A ≡ n * Y + q * A
+    join g =
+        let l : n * Y ≡ n * (B * A) = ap (λ (z : ℕ). n * z) e in
+        let m : p * Y ≡ p * (B * A) = ap (λ (z : ℕ). p * z) e in
+        let r : (q + n * B) * A ≡ (p * B + μ) * A = ap (λ (z : ℕ). z * A) g in
+        omega arith
+
+-- the grid's step is a multiple of x's: what is left is few of those, since x is half a step at least where q differs from μ
+fine-cut : (q μ p n A B Y : ℕ) → 0 < Y → A ≡ B * Y → 2 * (q * A + n * Y) ≤ 2 * (p * Y + μ * A) + A → 2 * (q * B + n) ≤ 2 * (p + μ * B) + B
+fine-cut q μ p n A B Y P e h =
+    le-of-mul-le-mul-right {k = Y}
+    (let a : q * A ≡ q * (B * Y) = ap (λ (z : ℕ). q * z) e in
+    let b : μ * A ≡ μ * (B * Y) = ap (λ (z : ℕ). μ * z) e in
+    omega arith)
+    P
+
+fine-cut' : (q μ p n A B Y : ℕ) → 0 < Y → A ≡ B * Y → 2 * (p * Y + μ * A) ≤ 2 * (q * A + n * Y) + A → 2 * (p + μ * B) ≤ 2 * (q * B + n) + B
+fine-cut' q μ p n A B Y P e h =
+    le-of-mul-le-mul-right {k = Y}
+    (let a : q * A ≡ q * (B * Y) = ap (λ (z : ℕ). q * z) e in
+    let b : μ * A ≡ μ * (B * Y) = ap (λ (z : ℕ). μ * z) e in
+    omega arith)
+    P
+
+narrow : (q μ p n B : ℕ) → p + n < 2 ^ 53 → (q < μ) ⊎ (μ < q) → 2 * (q * B + n) ≤ 2 * (p + μ * B) + B → 2 * (p + μ * B) ≤ 2 * (q * B + n) + B → (p + μ * B ≤ n + q * B + 2 ^ 53) × (n + q * B ≤ p + μ * B + 2 ^ 53)
+narrow q μ p n B f (inl l) a b = let m : suc q * B ≤ μ * B = mul-le-mul-right B l in let k : suc q * B ≡ q * B + B = suc-mul q B in (omega arith, omega arith)
+narrow q μ p n B f (inr l) a b = let m : suc μ * B ≤ q * B = mul-le-mul-right B l in let k : suc μ * B ≡ μ * B + B = suc-mul μ B in (omega arith, omega arith)
+
+trichotomy : (q μ : ℕ) → (q ≡ μ) ⊎ ((q < μ) ⊎ (μ < q))
+trichotomy q μ = go (ltb q μ) (ltb μ q) (ltb→lt q μ) (nltb→le q μ) (ltb→lt μ q) (nltb→le μ q)
+  where
+    go : (a b : Bool) → (T a → q < μ) → (T (not a) → μ ≤ q) → (T b → μ < q) → (T (not b) → q ≤ μ) → (q ≡ μ) ⊎ ((q < μ) ⊎ (μ < q))
+    go true b h k h' k' = inr (inl (h tt))
+    go false true h k h' k' = inr (inr (h' tt))
+    go false false h k h' k' = inl (let a = k tt in let b = k' tt in omega arith)
+
+le-or-le : (a b : ℕ) → (a ≤ b) ⊎ (b ≤ a)
+le-or-le a b = go (ltb b a) (ltb→lt b a) (nltb→le b a)
+  where
+    go : (t : Bool) → (T t → b < a) → (T (not t) → a ≤ b) → (a ≤ b) ⊎ (b ≤ a)
+    go true h k = inr (le-of-lt (h tt))
+    go false h k = inl (k tt)
+
+-- some number of steps, at most 2 ^ 53
+record Few (a b : ℕ) : Type 0 where
+  p : ℕ
+  n : ℕ
+  j : ℕ
+  j-low : j ≤ 970 + 1074
+  p-low : p ≤ n + 2 ^ 53
+  n-low : n ≤ p + 2 ^ 53
+  same : a + n * 2 ^ j ≡ p * 2 ^ j + b
+
+left-over : (q μ p n i k : ℕ) → k ≤ 1074 → p + n < 2 ^ 53 → 2 * (q * 2 ^ (1074 - k) + n * 2 ^ i) ≤ 2 * (p * 2 ^ i + μ * 2 ^ (1074 - k)) + 2 ^ (1074 - k)
+    → 2 * (p * 2 ^ i + μ * 2 ^ (1074 - k)) ≤ 2 * (q * 2 ^ (1074 - k) + n * 2 ^ i) + 2 ^ (1074 - k) → Few (p * 2 ^ i + μ * 2 ^ (1074 - k)) (n * 2 ^ i + q * 2 ^ (1074 - k))
+left-over q μ p n i k K f h h' = elim (le-or-le (1074 - k) i) [
+  | inl g ↦
+      record {
+        p = 0;
+        n = 0;
+        j = 0;
+        j-low = zero-le;
+        p-low = zero-le;
+        n-low = zero-le;
+        same = nothing (p * 2 ^ i + μ * 2 ^ (1074 - k)) (n * 2 ^ i + q * 2 ^ (1074 - k)) (coarse q μ p n (2 ^ (1074 - k)) (2 ^ (i - (1074 - k))) (2 ^ i) (pow-pos (1074 - k)) (apart i (1074 - k) g) h h');
+      }
+  | inr g ↦ elim (trichotomy q μ) [
+    | inl e ↦ record { p = p; n = n; j = i; j-low = cap i k g; p-low = omega arith; n-low = omega arith; same = alike (p * 2 ^ i) (n * 2 ^ i) q μ (2 ^ (1074 - k)) e }
+    | inr d ↦
+        let e = apart (1074 - k) i g in
+        let B = 2 ^ (1074 - k - i) in
+        let r = narrow q μ p n B f d (fine-cut q μ p n (2 ^ (1074 - k)) B (2 ^ i) (pow-pos i) e h) (fine-cut' q μ p n (2 ^ (1074 - k)) B (2 ^ i) (pow-pos i) e h') in
+        record { p = p + μ * B; n = n + q * B; j = i; j-low = cap i k g; p-low = r .0; n-low = r .1; same = moved p n q μ (2 ^ (1074 - k)) B (2 ^ i) e }
+  ]
+]
+  where
+    cap : (i k : ℕ) → i ≤ 1074 - k → i ≤ 970 + 1074
+    cap i k h = omega arith
+
+    apart : (a b : ℕ) → b ≤ a → 2 ^ a ≡ 2 ^ (a - b) * 2 ^ b
+    apart a b h = ap (λ (z : ℕ). 2 ^ z) (sym (sub-add-cancel h)) ∙ pow-add 2 (a - b) b
+
+    alike : (a b q μ A : ℕ) → q ≡ μ → a + μ * A + b ≡ a + (b + q * A)
+    alike a b q μ A e = let l : q * A ≡ μ * A = ap (λ (z : ℕ). z * A) e in omega arith
+
+    nothing : (a b : ℕ) → a ≡ b → a + 0 * 1 ≡ 0 * 1 + b
+    nothing a b e = omega arith
+
+    moved : (p n q μ A B Y : ℕ) → A ≡ B * Y → p * Y + μ * A + (n + q * B) * Y ≡ (p + μ * B) * Y + (n * Y + q * A)
+    moved p n q μ A B Y e =
+        let a : q * A ≡ q * (B * Y) = ap (λ (z : ℕ). q * z) e in
+        let b : μ * A ≡ μ * (B * Y) = ap (λ (z : ℕ). μ * z) e in
+        omega arith
+
+pub rest-exact : {P N c μ k : ℕ} (x t M : Float) (S : Snapped P N c μ k t) → 0 < c → k ≤ 1074 → μ ≤ 2 ^ 53 → T (fits binary64 x) → Is x P N c → HasValue M false μ (2 ^ k)
+    → Is (sub binary64 x (sub binary64 t M)) (P * 2 ^ k + μ * c) (N * 2 ^ k + S .q * c) (c * 2 ^ k)
+rest-exact {P} {N} {c} {μ} {k} x t M S C K U F i m =
+    let X = parts x F (i .bounded) in
+    let q = S .q in
+    let A = 2 ^ (1074 - k) in
+    let a = X .p * 2 ^ X .i in
+    let b = X .n * 2 ^ X .i in
+    let w : A * 2 ^ k ≡ 2 ^ 1074 = whole-units k K in
+    let e : P * 2 ^ 1074 + b * c ≡ a * c + N * 2 ^ 1074 = is-cross x i (X .is) in
+    let r : Is (sub binary64 t M) (q * A) (μ * A) (2 ^ 1074) = is-same (q * A) (μ * A) (2 ^ 1074) (pow-pos k) (grown q μ A (2 ^ k) (2 ^ 1074) w) (snap-sub t M S K U m) in
+    let s : Rounds binary64 (a + μ * A) (b + q * A) (2 ^ 1074) (sub binary64 x (sub binary64 t M)) = sub-common binary64 x (sub binary64 t M) (pow-pos 1074) (X .is) r in
+    let l = left-over q μ (X .p) (X .n) (X .i) k K (X .few)
+    (units-above P N c μ q (2 ^ k) A (2 ^ 1074) (2 ^ X .i) (X .p) (X .n) C w e (S .above))
+    (units-below P N c μ q (2 ^ k) A (2 ^ 1074) (2 ^ X .i) (X .p) (X .n) C w e (S .below)) in
+    let z : Is (sub binary64 x (sub binary64 t M)) (a + μ * A) (b + q * A) (2 ^ 1074) =
+    rounds-exact (a + μ * A) (b + q * A) (2 ^ 1074) (l .p) (l .n) (l .j) 1074 (pow-pos 1074) (lit≤ tt) (l .j-low) (l .p-low) (l .n-low) (times (a + μ * A) (b + q * A) (l .p * 2 ^ l .j) (l .n * 2 ^ l .j) (2 ^ 1074) (l .same)) s in
+    is-same (P * 2 ^ k + μ * c) (N * 2 ^ k + q * c) (c * 2 ^ k) (pow-pos 1074)
+    (subst (λ (u : ℕ). (a + μ * A) * (c * 2 ^ k) + (N * 2 ^ k + q * c) * u ≡ (P * 2 ^ k + μ * c) * u + (b + q * A) * (c * 2 ^ k)) w
+    (over-right (a + μ * A) (b + q * A) (P * 2 ^ k + μ * c) (N * 2 ^ k + q * c) c A (2 ^ k) (whole P N a b c μ q A (2 ^ k) (2 ^ 1074) w e))) z
+  where
+    grown : (q μ A t U : ℕ) → A * t ≡ U → q * U + μ * A * t ≡ q * A * t + μ * U
+    grown q μ A t U w =
+        let a : q * (A * t) ≡ q * U = ap (λ (z : ℕ). q * z) w in
+        let b : μ * (A * t) ≡ μ * U = ap (λ (z : ℕ). μ * z) w in
+        omega arith
+
+    times : (a b p n u : ℕ) → a + n ≡ p + b → a * u + n * u ≡ p * u + b * u
+    times a b p n u h = let k : (a + n) * u ≡ (p + b) * u = ap (λ (z : ℕ). z * u) h in omega arith
+
+    whole : (P N a b c μ q A t U : ℕ) → A * t ≡ U → P * U + b * c ≡ a * c + N * U → (a + μ * A) * c + (N * t + q * c) * A ≡ (P * t + μ * c) * A + (b + q * A) * c
+    whole P N a b c μ q A t U w e =
+        let l : N * (A * t) ≡ N * U = ap (λ (z : ℕ). N * z) w in
+        let m : P * (A * t) ≡ P * U = ap (λ (z : ℕ). P * z) w in
+        omega arith
+
+-- it is half a step at most
+pub rest-le : {P N c μ k : ℕ} (x t M h : Float) (S : Snapped P N c μ k t) → 0 < c → k ≤ 1074 → μ ≤ 2 ^ 53 → T (fits binary64 x) → Is x P N c → HasValue M false μ (2 ^ k) → HasValue h false 1 (2 ^ suc k)
+    → T (le (sub binary64 x (sub binary64 t M)) h)
+rest-le {P} {N} {c} {μ} {k} x t M h S C K U F i m v =
+    is-le (sub binary64 x (sub binary64 t M)) h (mul-pos C (pow-pos k)) (pow-pos (suc k)) (rest-exact x t M S C K U F i m) (is-plus h 1 (2 ^ suc k) v)
+    (half (P * 2 ^ k) (N * 2 ^ k) (S .q * c) (μ * c) c (2 ^ k) (2 ^ suc k) (pow-succ' 2 k) (S .below))
+  where
+    half : (P N q μ c t u : ℕ) → u ≡ 2 * t → 2 * (P + μ) ≤ 2 * (q + N) + c → (P + μ) * u + 0 * (c * t) ≤ 1 * (c * t) + (N + q) * u
+    half P N q μ c t u e h =
+        let k : (2 * (P + μ)) * t ≤ (2 * (q + N) + c) * t = mul-le-mul-right t h in
+        let l : (P + μ) * u ≡ (P + μ) * (2 * t) = ap (λ (z : ℕ). (P + μ) * z) e in
+        let m : (N + q) * u ≡ (N + q) * (2 * t) = ap (λ (z : ℕ). (N + q) * z) e in
+        omega arith
+
+pub rest-ge : {P N c μ k : ℕ} (x t M h : Float) (S : Snapped P N c μ k t) → 0 < c → k ≤ 1074 → μ ≤ 2 ^ 53 → T (fits binary64 x) → Is x P N c → HasValue M false μ (2 ^ k) → HasValue h true 1 (2 ^ suc k)
+    → T (le h (sub binary64 x (sub binary64 t M)))
+rest-ge {P} {N} {c} {μ} {k} x t M h S C K U F i m v =
+    is-le h (sub binary64 x (sub binary64 t M)) (pow-pos (suc k)) (mul-pos C (pow-pos k)) (is-less h 1 (2 ^ suc k) v) (rest-exact x t M S C K U F i m)
+    (half (P * 2 ^ k) (N * 2 ^ k) (S .q * c) (μ * c) c (2 ^ k) (2 ^ suc k) (pow-succ' 2 k) (S .above))
+  where
+    half : (P N q μ c t u : ℕ) → u ≡ 2 * t → 2 * (q + N) ≤ 2 * (P + μ) + c → 0 * (c * t) + (N + q) * u ≤ (P + μ) * u + 1 * (c * t)
+    half P N q μ c t u e h =
+        let k : (2 * (q + N)) * t ≤ (2 * (P + μ) + c) * t = mul-le-mul-right t h in
+        let l : (P + μ) * u ≡ (P + μ) * (2 * t) = ap (λ (z : ℕ). (P + μ) * z) e in
+        let m : (N + q) * u ≡ (N + q) * (2 * t) = ap (λ (z : ℕ). (N + q) * z) e in
+        omega arith

@@ -1,0 +1,139 @@
+-- The angle of a point is finite wherever neither part is a not-a-number, zeros and infinities included, and it is odd in y. The values on the
+-- axes and at (1, 1) are the nearest f64, by computation. Assumes nothing.
+use mathlib.Core.Path.{_≡_, refl, sym, ap, _∙_, subst}
+use mathlib.Core.List.{List, [], _∷_}
+use mathlib.Core.Bool.{Bool, true, false, not, _||_, cond}
+use Prim.Native.Nat.{ℕ}
+use lib.Dec.{T, lit<, lit≤}
+use lib.Ieee.{Float, nan, inf, fin, binary64, ofBits, toBits, neg, add, sub, mul, div, lt, le, eq, fits, isNan}
+use lib.Ieee.Bits.{is-false}
+use lib.Ieee.Fits.{neg-fits}
+use lib.Ieee.Scale.{finite}
+use Rattle.laws.proofs.Value.{sign, bare, finite-no-nan}
+use Rattle.laws.proofs.Order.{neg-finite}
+use Rattle.laws.proofs.Mag.{Mag, magTest, mag-literal, mag-neg, mag-add, mag-sub}
+use Rattle.angle.proofs.Arc.{ArcSize, arc-size}
+use Rattle.angle.proofs.Sides.{magnitude-is, negative-is, magnitude-fits, magnitude-above, sides-ordered, scaled-ranged}
+use Rattle.angle.specs.Angle.{zero, one, infinity, grid, negative, magnitude, leading, sidesOf, times, loweredOf, raisedOf, scaledOf, stepOf, tangentOf, seriesOf, joinedOf, tabledArcOf, arcOf, awayOf, backOf, quarter, half, turnedOf, upperOf, angleOf}
+use Rattle.angle.specs.Tables.{atanHigh, atanLow}
+use Rattle.angle.specs.declared.angle.Sum.{Sum}
+
+-- ---- finite
+away-size : (c a : Sum) → Mag binary64 1076 (c .high) → Mag binary64 1076 (c .low) → ArcSize a → Mag binary64 1102 (awayOf c a)
+unfolding awayOf
+away-size c a h l m =
+    let top : Mag binary64 1079 (add binary64 (c .high) (a .high)) = mag-add h (m .high) (lit< tt) (lit< tt) (lit≤ tt) in
+    let less : Mag binary64 1080 (sub binary64 (c .high) (add binary64 (c .high) (a .high))) = mag-sub h top (lit< tt) (lit< tt) (lit≤ tt) in
+    let carried : Mag binary64 1081 (add binary64 (sub binary64 (c .high) (add binary64 (c .high) (a .high))) (a .high)) = mag-add less (m .high) (lit< tt) (lit< tt) (lit≤ tt) in
+    let lows : Mag binary64 1100 (add binary64 (c .low) (a .low)) = mag-add l (m .low) (lit< tt) (lit< tt) (lit≤ tt) in
+    mag-add {m = 1101} top (mag-add carried lows (lit< tt) (lit< tt) (lit≤ tt)) (lit< tt) (lit< tt) (lit≤ tt)
+
+back-size : (a : Sum) → ArcSize a → ArcSize (backOf a)
+unfolding backOf
+back-size a m = record { high = mag-neg (m .high); low = mag-neg (m .low) }
+
+turned-size : (a : Sum) (steep left : Bool) → ArcSize a → Mag binary64 1102 (turnedOf a steep left)
+unfolding turnedOf
+turned-size a true true m = away-size quarter a (unfold quarter ofBits magTest in mag-literal tt) (unfold quarter ofBits magTest in mag-literal tt) m
+turned-size a true false m = away-size quarter (backOf a) (unfold quarter ofBits magTest in mag-literal tt) (unfold quarter ofBits magTest in mag-literal tt) (back-size a m)
+turned-size a false true m = away-size half (backOf a) (unfold half ofBits magTest in mag-literal tt) (unfold half ofBits magTest in mag-literal tt) (back-size a m)
+turned-size a false false m = mag-add (m .high) (m .low) (lit< tt) (lit< tt) (lit≤ tt)
+
+signed : Bool → Float → Float
+signed s r = cond s (neg r) r
+
+signed-finite : (s : Bool) (r : Float) → T (finite r) → T (finite (signed s r))
+unfolding signed
+signed-finite true r f = neg-finite r f
+signed-finite false r f = f
+
+pub angle-number-finite : (y x : Float) → T (fits binary64 y) → T (fits binary64 x) → T (not (isNan y)) → T (not (isNan x)) → T (finite (angleOf y x))
+unfolding angleOf upperOf signed
+angle-number-finite y x F G n m =
+    rw (is-false (isNan y) n, is-false (isNan x) m)
+    (signed-finite (negative y) (turnedOf (arcOf (scaledOf (sidesOf (magnitude y) (magnitude x)))) (lt (magnitude x) (magnitude y)) (negative x))
+    (turned-size (arcOf (scaledOf (sidesOf (magnitude y) (magnitude x)))) (lt (magnitude x) (magnitude y)) (negative x)
+    (arc-size (scaledOf (sidesOf (magnitude y) (magnitude x)))
+    (scaled-ranged (sidesOf (magnitude y) (magnitude x)) (sides-ordered (magnitude y) (magnitude x) (magnitude-fits y) (magnitude-fits x) (magnitude-above y F n) (magnitude-above x G m))))
+    .fine))
+
+pub angle-finite : (y x : Float) → T (fits binary64 y) → T (fits binary64 x) → T (finite y) → T (finite x) → T (finite (angleOf y x))
+angle-finite y x F G f g = angle-number-finite y x F G (finite-no-nan y f) (finite-no-nan x g)
+
+-- ---- odd in y
+neg-neg : (r : Float) → neg (neg r) ≡ r
+unfolding neg
+neg-neg nan = refl
+neg-neg (inf true) = refl
+neg-neg (inf false) = refl
+neg-neg (fin true m e) = refl
+neg-neg (fin false m e) = refl
+
+bare-neg : (y : Float) → bare (neg y) ≡ bare y
+unfolding neg
+bare-neg nan = refl
+bare-neg (inf s) = refl
+bare-neg (fin s m e) = refl
+
+sign-neg : (y : Float) → T (not (isNan y)) → sign (neg y) ≡ not (sign y)
+unfolding neg isNan
+sign-neg nan n = absurd n
+sign-neg (inf s) n = refl
+sign-neg (fin s m e) n = refl
+
+nan-neg : (y : Float) → isNan (neg y) ≡ isNan y
+unfolding neg isNan
+nan-neg nan = refl
+nan-neg (inf s) = refl
+nan-neg (fin s m e) = refl
+
+signed-not : (s : Bool) (r : Float) → signed (not s) r ≡ neg (signed s r)
+unfolding signed
+signed-not true r = sym (neg-neg r)
+signed-not false r = refl
+
+number : (y : Float) → isNan y ≡ false → T (not (isNan y))
+number y p = subst (λ (b : Bool). T (not b)) (sym p) tt
+
+same-magnitude : (y : Float) → T (fits binary64 y) → magnitude (neg y) ≡ magnitude y
+same-magnitude y F = magnitude-is (neg y) (neg-fits binary64 y F) ∙ bare-neg y ∙ sym (magnitude-is y F)
+
+other-sign : (y : Float) → T (fits binary64 y) → T (not (isNan y)) → negative (neg y) ≡ not (negative y)
+other-sign y F n =
+    negative-is (neg y) (neg-fits binary64 y F) (subst (λ (b : Bool). T (not b)) (sym (nan-neg y)) n) ∙ sign-neg y n ∙ ap not (sym (negative-is y F n))
+
+nan-is : nan ≡ neg nan
+unfolding neg
+nan-is = refl
+
+pub angle-odd : (y x : Float) → T (fits binary64 y) → angleOf (neg y) x ≡ neg (angleOf y x)
+unfolding angleOf signed
+angle-odd y x F = go (isNan y) (isNan x) refl refl
+  where
+    go : (a b : Bool) → isNan y ≡ a → isNan x ≡ b → angleOf (neg y) x ≡ neg (angleOf y x)
+    go true b p q = rw (nan-neg y, p) nan-is
+    go false true p q = rw (nan-neg y, p, q) nan-is
+    go false false p q =
+        rw (nan-neg y, p, q, same-magnitude y F, other-sign y F (number y p)) (signed-not (negative y) (upperOf (magnitude y) (magnitude x) (negative x)))
+
+-- ---- values, by their patterns
+unfoldable pub at : ℕ → ℕ → ℕ
+at y x = toBits binary64 (angleOf (ofBits binary64 y) (ofBits binary64 x))
+
+-- 0, π/2, π, π/4, 3π/4 at (y, x) = (0, 1), (1, 0), (0, -1), (1, 1), (1, -1)
+pub angle-values : (at 0 0x3FF0000000000000 ∷ at 0x3FF0000000000000 0 ∷ at 0 0xBFF0000000000000 ∷ at 0x3FF0000000000000 0x3FF0000000000000 ∷ at 0x3FF0000000000000 0xBFF0000000000000 ∷ [])
+    ≡ (0 ∷ 0x3FF921FB54442D18 ∷ 0x400921FB54442D18 ∷ 0x3FE921FB54442D18 ∷ 0x4002D97C7F3321D2 ∷ [])
+unfolding at angleOf upperOf turnedOf awayOf backOf quarter half arcOf tabledArcOf joinedOf seriesOf tangentOf stepOf grid leading scaledOf loweredOf raisedOf times infinity sidesOf magnitude negative zero one atanHigh atanLow ofBits toBits isNan lt le eq add sub mul div
+angle-values = refl
+
+-- ±0 beside +0 is itself, and beside -0 it is ±π
+pub angle-zeros : (at 0 0 ∷ at 0x8000000000000000 0 ∷ at 0 0x8000000000000000 ∷ at 0x8000000000000000 0x8000000000000000 ∷ [])
+    ≡ (0 ∷ 0x8000000000000000 ∷ 0x400921FB54442D18 ∷ 0xC00921FB54442D18 ∷ [])
+unfolding at angleOf upperOf turnedOf awayOf backOf quarter half arcOf tabledArcOf joinedOf seriesOf tangentOf stepOf grid leading scaledOf loweredOf raisedOf times infinity sidesOf magnitude negative zero one atanHigh atanLow ofBits toBits isNan lt le eq add sub mul div
+angle-zeros = refl
+
+-- an infinity beside 1, and two infinities: 0, π, π/2, π/4, -3π/4; a not-a-number in either place
+pub angle-infinities : (at 0x3FF0000000000000 0x7FF0000000000000 ∷ at 0x3FF0000000000000 0xFFF0000000000000 ∷ at 0x7FF0000000000000 0x3FF0000000000000 ∷ at 0x7FF0000000000000 0x7FF0000000000000 ∷ at 0xFFF0000000000000 0xFFF0000000000000 ∷ at 0x7FF8000000000000 0 ∷ at 0 0x7FF8000000000000 ∷ [])
+    ≡ (0 ∷ 0x400921FB54442D18 ∷ 0x3FF921FB54442D18 ∷ 0x3FE921FB54442D18 ∷ 0xC002D97C7F3321D2 ∷ 0x7FF8000000000000 ∷ 0x7FF8000000000000 ∷ [])
+unfolding at angleOf upperOf turnedOf awayOf backOf quarter half arcOf tabledArcOf joinedOf seriesOf tangentOf stepOf grid leading scaledOf loweredOf raisedOf times infinity sidesOf magnitude negative zero one atanHigh atanLow ofBits toBits isNan lt le eq add sub mul div
+angle-infinities = refl

@@ -1,0 +1,26 @@
+-- `angle::angle::upper` meets its contract: what the callees ensure, one after the other. Assumes nothing.
+use Rattle.angle.specs.Angle.{upperOf, turnedOf, arcOf, scaledOf}
+use Rattle.angle.specs.Angle.{upperOf}
+use borrow.Author.Needs.{needs}
+use Rattle.angle.proofs.angle.upper.Statement.{statement}
+use Rattle.angle.proofs.angle.upper.Tie as tie
+
+sides-requires : tie.Need-sides-requires
+sides-requires c κs = search needs
+
+scaled-requires : tie.Need-scaled-requires
+scaled-requires c κs = search needs
+
+arc-requires : tie.Need-arc-requires
+arc-requires c κs = search needs
+
+turned-requires : tie.Need-turned-requires
+turned-requires c κs = search needs
+
+returns : tie.Need-returns
+unfolding upperOf
+returns c = simp (c .turned .ensures, c .before .arc .ensures, c .before .before .scaled .ensures, c .before .before .before .sides .ensures)
+
+pub upper-spec : {M : Type 1} → statement M
+upper-spec =
+    tie.close (tie.spec sides-requires scaled-requires arc-requires turned-requires returns)

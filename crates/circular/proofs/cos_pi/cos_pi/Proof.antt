@@ -1,0 +1,56 @@
+-- `circular::cos_pi::cos_pi` meets its contract: by the bits of x. Assumes nothing.
+use mathlib.Core.Path.{sym, _∙_, subst, ap}
+use Prim.Native.Nat.{_<_}
+use native.Mathlib.Omega.{arith}
+use borrow.Author.Needs.{needs}
+use lib.Dec.{T}
+use Rattle.circular.specs.declared.reduce.Reduced.{Reduced}
+use Rattle.circular.proofs.Parts.{quarter-pi-lt, cosPi-large, cosPi-at}
+use Rattle.circular.proofs.cos_pi.cos_pi.Statement.{statement}
+use Rattle.circular.proofs.cos_pi.cos_pi.Tie as tie
+
+pattern-requires : tie.Need-pattern-requires
+pattern-requires c κs = search needs
+
+not-a-number-requires : tie.Need-not-a-number-requires
+not-a-number-requires c κs = search needs
+
+returns : tie.Need-returns
+returns c =
+    let s = c .before .before .before in
+    let p = c .before .before .pattern in
+    c .not-a-number .ensures ∙ sym (cosPi-large (s .args .x) (p .result) (subst T (sym (s .good .0 .1)) tt) (p .ensures) (c .before .if1 .taken))
+
+of-pattern-requires : tie.Need-of-pattern-requires
+of-pattern-requires c κs = search needs
+
+reduce-pi-requires : tie.Need-reduce-pi-requires
+reduce-pi-requires c κs = search needs
+
+add-sine-pi-at : tie.Need-add-sine-pi-at
+add-sine-pi-at c = omega (arith, subst (λ (r : Reduced). r .quarter < 4) (sym (c .before .reduce-pi .ensures)) (quarter-pi-lt (c .before .before .of-pattern .result)))
+
+sine-pi-at-requires : tie.Need-sine-pi-at-requires
+sine-pi-at-requires c κs = search needs
+
+returns-2 : tie.Need-returns-2
+returns-2 c =
+    let s = c .before .before .before .before .before .before in
+    let p = c .before .before .before .before .before .pattern in
+    let a = c .before .before .before .of-pattern in
+    let r = c .before .before .reduce-pi in
+    c .sine-pi-at .ensures
+    ∙ cosPi-at (s .args .x) (p .result) (subst T (sym (s .good .0 .1)) tt) (p .ensures) (c .before .before .before .before .if1 .left) (r .result) (a .result) (a .ensures) (r .ensures)
+
+pub cos-pi-spec : {M : Type 1} → statement M
+cos-pi-spec =
+    tie.close
+    (tie.spec
+    pattern-requires
+    not-a-number-requires
+    returns
+    of-pattern-requires
+    reduce-pi-requires
+    add-sine-pi-at
+    sine-pi-at-requires
+    returns-2)

@@ -1,0 +1,7 @@
+pub mod Operators
+pub mod Kernel
+pub mod Reduce
+pub mod Sin
+pub mod Cos
+pub mod SinPi
+pub mod CosPi

@@ -1,0 +1,17 @@
+-- The operators of f64, each of which rounds once, as a formula writes them. Definitions only.
+use lib.Ieee.{Float, binary64, add, sub, mul, rem}
+
+infixl 6 _⊕_ _⊖_
+infixl 7 _⊗_ _⊘_
+abbrev pub _⊕_ : Float → Float → Float
+x ⊕ y = add binary64 x y
+
+abbrev pub _⊖_ : Float → Float → Float
+x ⊖ y = sub binary64 x y
+
+abbrev pub _⊗_ : Float → Float → Float
+x ⊗ y = mul binary64 x y
+
+-- the remainder, with the sign of x
+abbrev pub _⊘_ : Float → Float → Float
+x ⊘ y = rem binary64 x y

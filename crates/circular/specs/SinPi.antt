@@ -1,0 +1,19 @@
+-- sin(πx). Not a number where x is none or an infinity. Definitions only.
+use Prim.Native.Nat.{_+_}
+use mathlib.Core.Bool.{false, cond}
+use lib.Ieee.{Float, nan, inf, fin, binary64, ofBits}
+use Rattle.circular.specs.Operators.{_⊖_}
+use Rattle.circular.specs.Kernel.{sineKernel, cosineKernel, turned}
+use Rattle.circular.specs.Reduce.{reducePiOf}
+
+-- -y, and +0 for either zero
+unfoldable pub fromZero : Float → Float
+fromZero y = ofBits binary64 0 ⊖ y
+
+-- a minus sign is half a turn
+unfoldable pub sinPiOf : Float → Float
+sinPiOf nan = nan
+sinPiOf (inf s) = nan
+sinPiOf (fin s m e) =
+    let r = reducePiOf (fin false m e) in
+    turned fromZero (r .quarter + cond s 2 0) (sineKernel (r .hi) (r .lo)) (cosineKernel (r .hi) (r .lo))

@@ -1,0 +1,40 @@
+// sin x and cos x together: one reduction and both kernels.
+// Promised: the bits of sinOf and of cosOf for every x.
+ghost use mathlib.Core.Path.{_≡_};
+ghost use Rattle.circular.specs.Sin.{sinOf};
+ghost use Rattle.circular.specs.Cos.{cosOf};
+use crate::kernel::cosine;
+use crate::kernel::sine;
+use crate::reduce::reduce;
+use machine::bits::of_pattern;
+use machine::bits::pattern;
+use machine::constants::not_a_number;
+
+pub struct SinCos {
+    pub sin: f64,
+    pub cos: f64,
+}
+
+pub fn sin_cos(x: f64) -> SinCos
+    ensures { λ r. ⌜ (r .sin ≡ sinOf x) × (r .cos ≡ cosOf x) ⌝ }
+{
+    let bits = pattern(x);
+    let size = bits % 0x8000000000000000;
+    if size >= 0x7FF0000000000000 {
+        return SinCos {
+            sin: not_a_number(),
+            cos: not_a_number(),
+        };
+    }
+    let angle = reduce(of_pattern(size));
+    let s = sine(angle.hi, angle.lo);
+    let c = cosine(angle.hi, angle.lo);
+    // the sines of the angle and of one, two and three quarter turns further on
+    let turned = [s, c, -s, -c];
+    let quarter = angle.quarter as usize;
+    let half = (bits / 0x8000000000000000 * 2) as usize;
+    SinCos {
+        sin: turned[(quarter + half) % 4],
+        cos: turned[(quarter + 1) % 4],
+    }
+}

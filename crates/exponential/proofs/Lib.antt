@@ -1,0 +1,10 @@
+-- The theorems, by topic.
+pub mod Tests
+pub mod Reduction
+pub mod Signs
+pub mod Entries
+pub mod Ranges
+pub mod Rest
+pub mod ExpFacts
+pub mod SinhFacts
+pub mod CoshFacts

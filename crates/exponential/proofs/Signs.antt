@@ -1,0 +1,102 @@
+-- The sign of x is taken off and put back: sinh is odd and cosh is even, not-a-numbers, infinities and both zeros included. Assumes nothing.
+use mathlib.Core.Path.{_≡_, refl, sym, ap, _∙_, subst}
+use mathlib.Core.Bool.{Bool, true, false, cond}
+use Prim.Native.Nat.{ℕ, _%_, _^_, _≤_, _<_}
+use native.Mathlib.Omega.{arith}
+use borrow.Author.Tests.{le-leb, lt-leb}
+use lib.Dec.{T, leb, lit<}
+use lib.Ieee.{Float, nan, inf, fin, binary64, neg, lt, le, ne, eq, ofBits, toBits, fits, isNan}
+use lib.Ieee.Bits.{ofBits-toBits}
+use lib.Ieee.Order.{le-of-values}
+use lib.Ieee.Positive.{num, den, den-pos}
+use Rattle.laws.proofs.Order.{neg-anti}
+use Rattle.laws.proofs.Value.{sign, bare}
+use Rattle.laws.proofs.Bits.{ofBits-bare, toBits-sign-bit}
+use Rattle.exponential.specs.Exp.{limit, lowerLimit, halfExpFar}
+use Rattle.exponential.specs.Sinh.{sinhMagnitude, sinhOf}
+use Rattle.exponential.specs.Cosh.{coshMagnitude, coshOf}
+
+-- the magnitude by the bits
+pub magnitude-by-bits : (x : Float) (b : ℕ) → T (fits binary64 x) → b ≡ toBits binary64 x → ofBits binary64 (b % 0x8000000000000000) ≡ bare x
+magnitude-by-bits x b F e = ap (λ (n : ℕ). ofBits binary64 (n % 0x8000000000000000)) e ∙ ofBits-bare (toBits binary64 x) ∙ ap bare (ofBits-toBits binary64 x F)
+
+sign-test : (x : Float) → T (fits binary64 x) → sign x ≡ leb 0x8000000000000000 (toBits binary64 x)
+unfolding toBits isNan
+sign-test nan F = refl
+sign-test (inf s) F = toBits-sign-bit (inf s) F tt
+sign-test (fin s m e) F = toBits-sign-bit (fin s m e) F tt
+
+pub sign-set : (x : Float) (b : ℕ) → T (fits binary64 x) → b ≡ toBits binary64 x → 0x8000000000000000 ≤ b → sign x ≡ true
+sign-set x b F e h = sign-test x F ∙ ap (leb 0x8000000000000000) (sym e) ∙ le-leb 0x8000000000000000 b h
+
+pub sign-clear : (x : Float) (b : ℕ) → T (fits binary64 x) → b ≡ toBits binary64 x → b < 0x8000000000000000 → sign x ≡ false
+sign-clear x b F e h = sign-test x F ∙ ap (leb 0x8000000000000000) (sym e) ∙ lt-leb 0x8000000000000000 b h
+
+sinh-nan : sinhMagnitude nan ≡ nan
+unfolding sinhMagnitude halfExpFar lt le ne limit eq
+sinh-nan = refl
+
+sinh-infinity : sinhMagnitude (inf false) ≡ inf false
+unfolding sinhMagnitude halfExpFar lt le ne limit ofBits eq
+sinh-infinity = refl
+
+cosh-nan : coshMagnitude nan ≡ nan
+unfolding coshMagnitude halfExpFar lt le ne limit eq
+cosh-nan = refl
+
+cosh-infinity : coshMagnitude (inf false) ≡ inf false
+unfolding coshMagnitude halfExpFar lt le ne limit ofBits eq
+cosh-infinity = refl
+
+pub sinh-by-sign : (x : Float) → sinhOf x ≡ cond (sign x) (neg (sinhMagnitude (bare x))) (sinhMagnitude (bare x))
+unfolding sinhOf neg
+sinh-by-sign nan = sym sinh-nan
+sinh-by-sign (inf false) = sym sinh-infinity
+sinh-by-sign (inf true) = sym (ap neg sinh-infinity)
+sinh-by-sign (fin s m e) = refl
+
+pub cosh-by-magnitude : (x : Float) → coshOf x ≡ coshMagnitude (bare x)
+unfolding coshOf
+cosh-by-magnitude nan = sym cosh-nan
+cosh-by-magnitude (inf s) = sym cosh-infinity
+cosh-by-magnitude (fin s m e) = refl
+
+neg-neg : (x : Float) → neg (neg x) ≡ x
+unfolding neg
+neg-neg nan = refl
+neg-neg (inf false) = refl
+neg-neg (inf true) = refl
+neg-neg (fin false m e) = refl
+neg-neg (fin true m e) = refl
+
+pub sinh-odd : (x : Float) → sinhOf (neg x) ≡ neg (sinhOf x)
+unfolding sinhOf neg
+sinh-odd nan = refl
+sinh-odd (inf s) = refl
+sinh-odd (fin false m e) = refl
+sinh-odd (fin true m e) = sym (neg-neg (sinhMagnitude (fin false m e)))
+
+pub cosh-even : (x : Float) → coshOf (neg x) ≡ coshOf x
+unfolding coshOf neg
+cosh-even nan = refl
+cosh-even (inf s) = refl
+cosh-even (fin s m e) = refl
+
+-- ---- a magnitude is not below 0, and lies between the same limits
+pub bare-not-below-zero : (x : Float) → T (le lowerLimit x) → T (le (ofBits binary64 0) (bare x))
+unfolding le lt lowerLimit limit ofBits neg
+bare-not-below-zero nan l = l
+bare-not-below-zero (inf s) l = tt
+bare-not-below-zero (fin s m e) l = le-of-values (ofBits binary64 0) (fin false m e) 0 1 (num (fin false m e)) (den (fin false m e)) (lit< tt) (den-pos (fin false m e)) (refl, refl) (refl, refl) (omega arith)
+
+turned : neg lowerLimit ≡ limit
+unfolding lowerLimit limit ofBits neg
+turned = refl
+
+pub bare-within : (x : Float) → T (le lowerLimit x) → T (le x limit) → T (le lowerLimit (bare x)) × T (le (bare x) limit)
+unfolding le lt lowerLimit limit ofBits neg
+bare-within nan l h = (l, h)
+bare-within (inf false) l h = (l, h)
+bare-within (inf true) l h = absurd l
+bare-within (fin false m e) l h = (l, h)
+bare-within (fin true m e) l h = (neg-anti (fin true m e) limit h, subst (λ (z : Float). T (le (fin false m e) z)) turned (neg-anti lowerLimit (fin true m e) l))

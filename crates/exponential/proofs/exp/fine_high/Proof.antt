@@ -1,0 +1,19 @@
+-- `exponential::exp::fine_high` meets its contract: the table is its definition's list. Assumes nothing.
+use mathlib.Core.Path.{refl}
+use borrow.Author.Needs.{needs}
+use Rattle.exponential.specs.Tables.{fineHigh}
+use Rattle.exponential.proofs.exp.fine_high.Statement.{statement}
+use Rattle.exponential.proofs.exp.fine_high.Tie as tie
+
+mul-result : tie.Need-mul-result
+mul-result c = search needs
+
+array-read-result : tie.Need-array-read-result
+array-read-result c = search needs
+
+returns : tie.Need-returns
+unfolding fineHigh
+returns c = refl
+
+pub fine-high-spec : {M : Type 1} → statement M
+fine-high-spec = tie.close (tie.spec mul-result array-read-result returns)

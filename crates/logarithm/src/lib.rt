@@ -1,0 +1,3 @@
+// The natural logarithm.
+pub mod ln;
+pub mod tables;

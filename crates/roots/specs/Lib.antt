@@ -1,0 +1,4 @@
+pub mod Tables
+pub mod Seed
+pub mod Sqrt
+pub mod Hypot

@@ -1,0 +1,2 @@
+// Rounding to a whole number, a half away from zero.
+pub mod round;

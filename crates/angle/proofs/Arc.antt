@@ -4,14 +4,14 @@ use mathlib.Core.Path.{_≡_, refl, sym, ap, _∙_, subst}
 use Prim.Native.Nat.{ℕ, suc, _+_, _-_, _≤_, _<_}
 use native.Mathlib.Nat.{le-trans, mul-le-mul-right}
 use native.Mathlib.Omega.{arith}
-use mathlib.Core.Bool.{Bool, true, false, cond}
+use mathlib.Core.Bool.{Bool, true, false, _&&_, cond}
 use lib.Dec.{T, lit<, lit≤}
 use lib.Pow.{pow-mono}
 use lib.ListN.{getD}
 use lib.Ieee.{Float, nan, binary64, ofBits, add, sub, mul, div, le}
-use lib.Ieee.Fits.{add-fits, mul-fits}
+use lib.Ieee.Fits.{and-l, and-r, add-fits, mul-fits}
 use lib.Ieee.Positive.{positive, den}
-use Rattle.laws.proofs.Order.{nought, le-trans-float}
+use Rattle.laws.proofs.Order.{nought, le-trans-float, finite-between}
 use Rattle.laws.proofs.Interval.{Between}
 use Rattle.laws.proofs.Bound.{every, every-at}
 use Rattle.laws.proofs.Mag.{Mag, AtLeast, Under, magTest, atLeastTest, mag-literal, at-least-literal, mag-mul, mag-div, mag-add, mag-sub}
@@ -139,6 +139,13 @@ module _ (a b t h : Float) (o : Operands a b t h) where
     low-size = let k = o .most in let l = o .least in mag-mul rest-size inverse-size (omega arith) (omega arith)
 
 -- ---- of a triangle in range
+pub unit-between : (t : Float) → T (le zero t && le t one) → Between zero one t
+unfolding one
+unit-between t h =
+    let a = and-l (le zero t) (le t one) h in
+    let b = and-r (le zero t) (le t one) h in
+    (finite-between nought t one tt (unfold ofBits in tt) (from-zero t a) b, a, b)
+
 lowest-over : AtLeast binary64 200 lowest
 unfolding lowest ofBits atLeastTest
 lowest-over = at-least-literal tt

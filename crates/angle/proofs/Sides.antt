@@ -1,17 +1,17 @@
 -- The magnitudes of two numbers, by size, and scaled: the larger lies between 2^-874 and 2^1000, and the smaller between 0 and it. Assumes nothing.
-use mathlib.Core.Path.{_≡_, refl, sym, ap, _∙_, subst}
+use mathlib.Core.Path.{_≡_, refl, sym, ap, _∙_, subst, subst₂}
 use mathlib.Core.List.{List, [], _∷_}
-use mathlib.Core.Bool.{Bool, true, false, not, cond}
-use Prim.Native.Nat.{ℕ}
+use mathlib.Core.Bool.{Bool, true, false, not, _&&_, cond}
+use Prim.Native.Nat.{ℕ, _%_, _^_, _≤_}
 use lib.Dec.{T}
 use lib.Ieee.{Float, inf, binary64, ofBits, toBits, mul, fits, isNan, lt, le, eq}
 use lib.Ieee.Bits.{ofBits-toBits, ofBits-fits}
-use lib.Ieee.Fits.{mul-fits}
+use lib.Ieee.Fits.{and-i, and-l, and-r, mul-fits}
 use lib.Ieee.Scale.{finite}
 use lib.Ieee.Positive.{positive}
 use Rattle.laws.proofs.Value.{sign, bare}
 use Rattle.laws.proofs.Order.{nought, lt→le, le-trans-float, finite-between, mul-mono-pos}
-use Rattle.laws.proofs.Bits.{ofBits-bare, toBits-sign-bit}
+use Rattle.laws.proofs.Bits.{infBits, ofBits-bare, toBits-sign-bit, toBits-bare, toBits-at-most, bare-fits, bare-no-nan, bare-sign}
 use Rattle.laws.proofs.Interval.{Interval, iv, In, Expr, var, lit, product, eval, passes, Between, bounded, in-literals}
 use Rattle.angle.proofs.Ends.{bare-above, not-below, finite-of, positive-of, positive-above, at-most-largest, at-least-smallest}
 use Rattle.angle.specs.Angle.{zero, one, infinity, negative, magnitude, sidesOf, times, loweredOf, raisedOf, scaledOf}
@@ -48,6 +48,10 @@ magnitude-fits x = ofBits-fits binary64 _
 
 pub magnitude-above : (x : Float) → T (fits binary64 x) → T (not (isNan x)) → T (le zero (magnitude x))
 magnitude-above x F n = to-zero (magnitude x) (subst (λ (z : Float). T (le nought z)) (sym (magnitude-is x F)) (bare-above x n))
+
+-- the pattern without the sign's bit is no not-a-number's
+pub bare-pattern : (x : Float) → T (fits binary64 x) → T (not (isNan x)) → toBits binary64 x % 2 ^ 63 ≤ infBits
+bare-pattern x F n = subst (λ (b : ℕ). b ≤ infBits) (sym (toBits-bare x F n)) (toBits-at-most (bare x) (bare-fits x F) (bare-no-nan x n) (bare-sign x))
 
 -- ---- by size
 is-true : (b : Bool) → b ≡ true → T b
@@ -162,3 +166,12 @@ scaled-ranged s o =
       low = le-trans-float lowest (ofBits binary64 0x0DF0000000000000) (s .long) (unfold lowest ofBits le in tt) (not-below (s .long) (ofBits binary64 0x0DF0000000000000) (long-above s o) (unfold ofBits le in tt) i);
       high = unfold highest in not-below (ofBits binary64 0x7E70000000000000) (s .long) (unfold ofBits le in tt) (long-above s o) h;
     }))
+
+-- as the callees' results have them
+pub ranged-at : (y x : Float) (p s : Triangle) → T (fits binary64 y) → T (fits binary64 x) → T (le zero y && le zero x) → p ≡ sidesOf y x → s ≡ scaledOf p → Ranged s
+ranged-at y x p s F G h e g =
+    subst Ranged (sym (g ∙ ap scaledOf e)) (scaled-ranged (sidesOf y x) (sides-ordered y x F G (and-l (le zero y) (le zero x) h) (and-r (le zero y) (le zero x) h)))
+
+pub above-at : (y x a b : Float) → T (fits binary64 y) → T (fits binary64 x) → T (not (isNan y)) → T (not (isNan x)) → a ≡ magnitude y → b ≡ magnitude x → T (le zero a && le zero b)
+above-at y x a b F G n m e g =
+    subst₂ (λ (u v : Float). T (le zero u && le zero v)) (sym e) (sym g) (and-i (le zero (magnitude y)) (le zero (magnitude x)) (magnitude-above y F n) (magnitude-above x G m))

@@ -1,11 +1,12 @@
 -- The quotient of the sides lies between 0 and 1, so that its nearest 64th does, and the step's index is at most 64. Assumes nothing.
 use mathlib.Core.Path.{_≡_, refl, sym, ap, _∙_, subst}
 use mathlib.Core.List.{List, [], _∷_}
+use mathlib.Core.Bool.{_&&_}
 use Prim.Native.Nat.{ℕ, _-_, _≤_, _<_}
 use native.Mathlib.Omega.{arith}
 use lib.Dec.{T, lit<}
 use lib.Ieee.{Float, binary64, ofBits, toBits, add, sub, div, le}
-use lib.Ieee.Fits.{add-fits}
+use lib.Ieee.Fits.{and-i, add-fits}
 use lib.Ieee.Scale.{finite}
 use lib.Ieee.Positive.{positive}
 use Rattle.laws.proofs.Order.{nought, finite-between}
@@ -16,6 +17,7 @@ use Rattle.angle.proofs.Sides.{from-zero, to-zero}
 use Rattle.angle.specs.Angle.{zero, one, grid, stepOf}
 use Rattle.angle.specs.Range.{lowest, highest, Ranged}
 use Rattle.angle.specs.declared.angle.Triangle.{Triangle}
+use Rattle.angle.specs.declared.angle.Step.{Step}
 
 unit : Interval
 unit = iv (ofBits binary64 0) (ofBits binary64 0x3FF0000000000000)
@@ -79,3 +81,11 @@ module _ (s : Triangle) (r : Ranged s) where
   pub value-between : Between zero one (stepOf s .value)
   unfolding stepOf eval back moved grid zero one
   value-between = bounded binary64 (unit ∷ []) (div binary64 (s .short) (s .long) ∷ []) back (ofBits binary64 0) (ofBits binary64 0x3FF0000000000000) inside back-test
+
+  -- as a callee's result has them
+  pub index-at : (u : Step) → u ≡ stepOf s → u .index < 65
+  index-at u e = subst (λ (v : Step). v .index < 65) (sym e) index-below
+
+  pub value-at : (u : Step) → u ≡ stepOf s → T (le zero (u .value) && le (u .value) one)
+  value-at u e =
+      subst (λ (v : Step). T (le zero (v .value) && le (v .value) one)) (sym e) (and-i (le zero (stepOf s .value)) (le (stepOf s .value) one) (value-between .1) (value-between .2))

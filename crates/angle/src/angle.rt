@@ -2,9 +2,12 @@
 // into its quadrant. Own design, after the table method; DLMF 4.24.1 for the series, 4.24.15 for the step from a tabled arc.
 // Promised: the angle is the definition of specs/Angle.antt at every pair. Measured: 0.54 units in the last place.
 ghost use mathlib.Core.Path.{_≡_};
-ghost use Rattle.angle.specs.Angle.{negative, magnitude, leading, sidesOf, loweredOf, raisedOf, scaledOf, stepOf, tangentOf, seriesOf, joinedOf, tabledArcOf, arcOf, turnedOf, awayOf, upperOf, angleOf};
+ghost use mathlib.Core.Bool.{not, _&&_};
+ghost use lib.Dec.{T};
+ghost use lib.Ieee.{isNan, le};
+ghost use Rattle.angle.specs.Angle.{zero, one, negative, magnitude, leading, sidesOf, loweredOf, raisedOf, scaledOf, stepOf, tangentOf, seriesOf, joinedOf, tabledArcOf, arcOf, turnedOf, awayOf, upperOf, angleOf};
+ghost use Rattle.angle.specs.Range.{Ranged};
 use crate::tables;
-use machine::bits;
 use machine::constants;
 
 // atan v = v + A3 v^3 + A5 v^5 + A7 v^7, fitted to |v| <= 1/128
@@ -42,23 +45,26 @@ pub struct Step {
 }
 
 fn is_negative(x: f64) -> bool
+    requires { ⌜ T (not (isNan x)) ⌝ }
     ensures { λ r. ⌜ r ≡ negative x ⌝ }
 {
-    bits::pattern(x) >= 0x8000000000000000
+    f64::to_bits(x) >= 0x8000000000000000
 }
 
 fn without_sign(x: f64) -> f64
+    requires { ⌜ T (not (isNan x)) ⌝ }
     ensures { λ r. ⌜ r ≡ magnitude x ⌝ }
 {
-    bits::of_pattern(bits::pattern(x) % 0x8000000000000000)
+    f64::from_bits(f64::to_bits(x) % 0x8000000000000000)
 }
 
 // The leading 26 digits: a product of two such numbers is exact.
 fn leading_digits(x: f64) -> f64
+    requires { ⌜ T (not (isNan x)) ⌝ }
     ensures { λ r. ⌜ r ≡ leading x ⌝ }
 {
-    let u = bits::pattern(x);
-    bits::of_pattern(u - u % 0x8000000)
+    let u = f64::to_bits(x);
+    f64::from_bits(u - u % 0x8000000)
 }
 
 fn sides(y: f64, x: f64) -> Triangle
@@ -122,10 +128,11 @@ fn scaled(s: Triangle) -> Triangle
 }
 
 fn nearest_step(s: Triangle) -> Step
+    requires { ⌜ Ranged s ⌝ }
     ensures { λ r. ⌜ r ≡ stepOf s ⌝ }
 {
     let t = s.short / s.long + GRID;
-    let index = (bits::pattern(t) - 0x42D0000000000000) as usize;
+    let index = (f64::to_bits(t) - 0x42D0000000000000) as usize;
     Step {
         index,
         value: t - GRID,
@@ -134,6 +141,8 @@ fn nearest_step(s: Triangle) -> Step
 
 // The tangent of the angle between the point's radius and the step's, (b - t a) / (a + t b), as leading digits and the rest.
 fn tangent_left(s: Triangle, t: f64) -> Tangent
+    requires { ⌜ Ranged s ⌝ }
+    requires { ⌜ T (le zero t && le t one) ⌝ }
     ensures { λ r. ⌜ r ≡ tangentOf s t ⌝ }
 {
     let a = s.long;
@@ -180,6 +189,7 @@ fn joined(base: f64, base_low: f64, rest: Tangent) -> Sum
 }
 
 fn tabled_arc(s: Triangle) -> Sum
+    requires { ⌜ Ranged s ⌝ }
     ensures { λ r. ⌜ r ≡ tabledArcOf s ⌝ }
 {
     let step = nearest_step(s);
@@ -193,6 +203,7 @@ fn tabled_arc(s: Triangle) -> Sum
 
 // The angle between the longer side and the point's radius. Below 2^-28 it is its tangent, to the last digit.
 fn arc(s: Triangle) -> Sum
+    requires { ⌜ Ranged s ⌝ }
     ensures { λ r. ⌜ r ≡ arcOf s ⌝ }
 {
     if s.short <= s.long * 3.725290298461914e-9 {
@@ -243,6 +254,7 @@ fn turned(arc: Sum, steep: bool, left: bool) -> f64
 
 // The angle of a point above the axis, by the magnitudes of its parts and the side that it lies on.
 fn upper(y: f64, x: f64, left: bool) -> f64
+    requires { ⌜ T (le zero y && le zero x) ⌝ }
     ensures { λ r. ⌜ r ≡ upperOf y x left ⌝ }
 {
     turned(arc(scaled(sides(y, x))), y > x, left)

@@ -14,11 +14,11 @@ use Rattle.laws.proofs.Interval.{Between}
 use Rattle.laws.proofs.Relative.{positive-num}
 use Rattle.laws.proofs.Value.{lt-of-values}
 use Rattle.laws.proofs.Bits.{bits-positive}
-use Rattle.exponential.specs.Tables.{coarseHigh, coarseLow, fineHigh, fineLow}
+use Rattle.exponential.specs.Tables.{coarseHigh, coarseLow, fineHigh, fineLow, coarsePower, finePower}
 use Rattle.exponential.specs.Exp.{limit, lowerLimit, shifted, steps, rest, growth, product, expPair, total, expOf}
 use Rattle.exponential.proofs.Reduction.{steps-range}
 use Rattle.exponential.proofs.Entries.{coarse-high-in, coarse-low-in, fine-high-in, fine-low-in}
-use Rattle.exponential.proofs.Ranges.{Parts, product-parts, total-between}
+use Rattle.exponential.proofs.Ranges.{Parts, Powers, product-parts, total-between}
 use Rattle.exponential.proofs.Rest.{rest-in}
 
 zero-value : HasValue (ofBits binary64 0) false 0 1
@@ -32,11 +32,18 @@ module _ (x : Float) (l : T (le lowerLimit x)) (h : T (le x limit)) where
   fine-index : steps x % 256 < 256
   fine-index = omega arith
 
+  powers : Powers (coarsePower (steps x / 256)) (finePower (steps x % 256))
+  unfolding coarsePower finePower
+  powers = record {
+    coarse-high = coarse-high-in (steps x / 256) coarse-index;
+    coarse-low = coarse-low-in (steps x / 256) coarse-index;
+    fine-high = fine-high-in (steps x % 256) fine-index;
+    fine-low = fine-low-in (steps x % 256) fine-index;
+  }
+
   pub pair-parts : Parts (expPair x)
   unfolding expPair
-  pair-parts =
-      product-parts _ _ _ _ (rest x) (coarse-high-in (steps x / 256) coarse-index) (coarse-low-in (steps x / 256) coarse-index) (fine-high-in (steps x % 256) fine-index) (fine-low-in (steps x % 256) fine-index)
-      (rest-in x l h)
+  pair-parts = product-parts (coarsePower (steps x / 256)) (finePower (steps x % 256)) (rest x) powers (rest-in x l h)
 
   near : expOf x ≡ total (expPair x)
   unfolding expOf
@@ -59,7 +66,7 @@ module _ (x : Float) (l : T (le lowerLimit x)) (h : T (le x limit)) where
 
 -- ---- at 0
 pair-at-zero : total (expPair (ofBits binary64 0)) ≡ ofBits binary64 0x3FF0000000000000
-unfolding total expPair product growth steps rest shifted coarseHigh coarseLow fineHigh fineLow ofBits toBits add sub mul
+unfolding total expPair product growth steps rest shifted coarsePower finePower coarseHigh coarseLow fineHigh fineLow ofBits toBits add sub mul
 pair-at-zero = refl
 
 pub exp-at-zero : expOf (ofBits binary64 0) ≡ ofBits binary64 0x3FF0000000000000

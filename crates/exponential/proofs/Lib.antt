@@ -1,4 +1,5 @@
 -- The theorems, by topic.
+pub mod Arms
 pub mod Tests
 pub mod Reduction
 pub mod Signs

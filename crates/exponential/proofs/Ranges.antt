@@ -5,7 +5,7 @@ use mathlib.Core.List.{List, [], _∷_}
 use lib.Dec.{T}
 use lib.Ieee.{Float, binary64, ofBits, neg}
 use lib.Ieee.Scale.{finite}
-use Rattle.laws.proofs.Interval.{Interval, iv, In, Expr, var, lit, sum, difference, product, quotient, share, eval, value, passes, Between, bounded, in-literals}
+use Rattle.laws.proofs.Interval.{Interval, iv, In, Expr, var, lit, sum, difference, product, quotient, share, eval, value, passes, Inside, Between, bounded, in-literals}
 use Rattle.exponential.specs.declared.exp.Pair.{Pair}
 use Rattle.exponential.specs.Exp as exp
 use Rattle.exponential.specs.Sinh.{halfDifference}
@@ -76,15 +76,22 @@ pub record Parts (p : Pair) : Type 0 where
   pub high : In highs (p .hi)
   pub low : In lows (p .lo)
 
-pub product-parts : (eh el fh fl g : Float) → In coarseHighs eh → In coarseLows el → In fineHighs fh → In fineLows fl → In reduced g → Parts (exp.product eh el fh fl (exp.growth g))
+-- two powers from the tables
+pub record Powers (e f : Pair) : Type 0 where
+  pub coarse-high : In coarseHighs (e .hi)
+  pub coarse-low : In coarseLows (e .lo)
+  pub fine-high : In fineHighs (f .hi)
+  pub fine-low : In fineLows (f .lo)
+
+pub product-parts : (e f : Pair) (g : Float) → Powers e f → In reduced g → Parts (exp.product e f (exp.growth g))
 unfolding eval high-expr low-expr exp.product ofBits
-product-parts eh el fh fl g a b c d e =
-    let q = growth-in g e in
-    let p = exp.product eh el fh fl (exp.growth g) in
-    let ρ = eh ∷ el ∷ fh ∷ fl ∷ exp.growth g ∷ [] in
+product-parts e f g w r =
+    let p = exp.product e f (exp.growth g) in
+    let ρ = e .hi ∷ e .lo ∷ f .hi ∷ f .lo ∷ exp.growth g ∷ [] in
+    let i : Inside factors ρ = (w .coarse-high, (w .coarse-low, (w .fine-high, (w .fine-low, (growth-in g r, tt))))) in
     record {
-      high = in-bounds (ofBits binary64 0x0016000000000000) (ofBits binary64 0x7FC8000000000000) (p .hi) (bounded binary64 factors ρ high-expr (ofBits binary64 0x0016000000000000) (ofBits binary64 0x7FC8000000000000) (a, (b, (c, (d, (q, tt))))) high-test) tt;
-      low = in-bounds (ofBits binary64 0) (ofBits binary64 0x7F90000000000000) (p .lo) (bounded binary64 factors ρ low-expr (ofBits binary64 0) (ofBits binary64 0x7F90000000000000) (a, (b, (c, (d, (q, tt))))) low-test) tt;
+      high = in-bounds (ofBits binary64 0x0016000000000000) (ofBits binary64 0x7FC8000000000000) (p .hi) (bounded binary64 factors ρ high-expr (ofBits binary64 0x0016000000000000) (ofBits binary64 0x7FC8000000000000) i high-test) tt;
+      low = in-bounds (ofBits binary64 0) (ofBits binary64 0x7F90000000000000) (p .lo) (bounded binary64 factors ρ low-expr (ofBits binary64 0) (ofBits binary64 0x7F90000000000000) i low-test) tt;
     }
 
 -- ---- what is made of a pair

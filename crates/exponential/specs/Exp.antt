@@ -1,10 +1,9 @@
 -- e^x for every x, by two tables and a polynomial up to 705 in magnitude, by the square of e^(x/2) beyond. Definitions only.
 use mathlib.Core.Bool.{false, cond, _&&_}
 use Prim.Native.Nat.{ℕ, _-_, _/_, _%_}
-use lib.ListN.{getD}
 use lib.Ieee.{Float, nan, inf, binary64, ofBits, toBits, neg, lt, le, ne}
 use Rattle.exponential.specs.Operators.{_⊕_, _⊖_, _⊗_}
-use Rattle.exponential.specs.Tables.{coarseHigh, coarseLow, fineHigh, fineLow}
+use Rattle.exponential.specs.Tables.{coarsePower, finePower}
 use Rattle.exponential.specs.declared.exp.Pair.{Pair}
 
 -- 705 and -705
@@ -26,11 +25,11 @@ growth g =
     let z = g ⊗ g in
     g ⊕ z ⊗ ((c2 ⊕ g ⊗ c3) ⊕ z ⊗ ((c4 ⊕ g ⊗ c5) ⊕ z ⊗ c6))
 
--- the product of a coarse and a fine power, each in two parts, and 1 + q: the leading product is exact
-unfoldable pub product : Float → Float → Float → Float → Float → Pair
-product eh el fh fl q =
-    let ph = eh ⊗ fh in
-    let pl = eh ⊗ fl ⊕ el ⊗ (fh ⊕ fl) in
+-- the product of a coarse and a fine power and 1 + q: the leading product is exact
+unfoldable pub product : Pair → Pair → Float → Pair
+product e f q =
+    let ph = e .hi ⊗ f .hi in
+    let pl = e .hi ⊗ f .lo ⊕ e .lo ⊗ (f .hi ⊕ f .lo) in
     record { hi = ph; lo = pl ⊕ (ph ⊕ pl) ⊗ q }
 
 -- x plus 1.5 * 2^47, whose last digit is worth 1/32
@@ -49,11 +48,8 @@ rest x = x ⊖ (shifted x ⊖ ofBits binary64 0x42E8000000000000) ⊕ ofBits bin
 
 -- e^x in two parts, for x from -705 to 705
 unfoldable pub expPair : Float → Pair
-unfolding growth product steps rest coarseHigh coarseLow fineHigh fineLow
-expPair x =
-    let i = steps x / 256 in
-    let j = steps x % 256 in
-    product (getD coarseHigh i nan) (getD coarseLow i nan) (getD fineHigh j nan) (getD fineLow j nan) (growth (rest x))
+unfolding growth product steps rest coarsePower finePower
+expPair x = product (coarsePower (steps x / 256)) (finePower (steps x % 256)) (growth (rest x))
 
 -- the square of a pair's sum, times first and second, which undo the square of scale: the one rounding below the normal numbers is the last
 unfoldable pub square : Pair → Float → Float → Float → Float

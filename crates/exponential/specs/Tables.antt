@@ -1,7 +1,10 @@
 -- The powers of e that exp is put together from, each as its leading 26 digits and the rest, which is at least 0. Definitions only.
 -- Written by tools/tables/exponential.py, with src/tables.rt.
 use mathlib.Core.List.{List, [], _∷_}
-use lib.Ieee.{Float, binary64, ofBits}
+use Prim.Native.Nat.{ℕ}
+use lib.ListN.{getD}
+use lib.Ieee.{Float, nan, binary64, ofBits}
+use Rattle.exponential.specs.declared.exp.Pair.{Pair}
 
 -- e^(8(i-88)), the leading 26 digits
 unfoldable pub coarseHigh : List Float
@@ -366,6 +369,11 @@ coarseLow =
     ofBits binary64 0x7D131BAAC61E3F8C ∷
     ofBits binary64 0x7DC0A0BBECC82960 ∷
     []
+
+-- both parts
+unfoldable pub coarsePower : ℕ → Pair
+unfolding coarseHigh coarseLow
+coarsePower i = record { hi = getD coarseHigh i nan; lo = getD coarseLow i nan }
 
 -- e^(j/32 - 4 - 1/64), the leading 26 digits
 unfoldable pub fineHigh : List Float
@@ -888,3 +896,8 @@ fineLow =
     ofBits binary64 0x3E67AFB4DD4C10EB ∷
     ofBits binary64 0x3E8AF2944A78509F ∷
     []
+
+-- both parts
+unfoldable pub finePower : ℕ → Pair
+unfolding fineHigh fineLow
+finePower j = record { hi = getD fineHigh j nan; lo = getD fineLow j nan }

@@ -4,15 +4,10 @@
 ghost use mathlib.Core.Path.{_≡_};
 ghost use mathlib.Core.Bool.{false};
 ghost use lib.Dec.{T};
-ghost use lib.ListN.{getD};
-ghost use Prim.Native.Nat.{_<_};
-ghost use lib.Ieee.{nan, le, lt, binary64, ofBits};
-ghost use Rattle.exponential.specs.Tables.{coarseHigh, coarseLow, fineHigh, fineLow};
+ghost use lib.Ieee.{le, lt, binary64, ofBits};
 ghost use Rattle.exponential.specs.Exp.{limit, lowerLimit, growth, product, expPair, square, total, expFar, expOf, halfExpFar};
-use crate::tables::COARSE_HIGH;
-use crate::tables::COARSE_LOW;
-use crate::tables::FINE_HIGH;
-use crate::tables::FINE_LOW;
+use crate::tables::coarse;
+use crate::tables::fine;
 use machine::constants::not_a_number;
 
 // A value as a leading part and what is left of it.
@@ -25,6 +20,17 @@ pub struct Pair {
 const SHIFT: f64 = 211106232532992.0;
 // the bits of SHIFT, less 32 * 708
 const FIRST: u64 = 0x42E7FFFFFFFFA780;
+
+// 2^-500, 2^500 and 2^499: the scales of a square that is large
+const SHRINK: f64 = 3.054936363499605e-151;
+
+const STRETCH: f64 = 3.273390607896142e150;
+
+const HALF_STRETCH: f64 = 1.636695303948071e150;
+// 2^520 and 2^-520: those of a square that is small
+const RAISE: f64 = 3.432398830065305e156;
+
+const LOWER: f64 = 2.913414348125081e-157;
 
 pub fn exp(x: f64) -> f64
     ensures { λ r. ⌜ r ≡ expOf x ⌝ }
@@ -54,41 +60,7 @@ pub fn exp_pair(x: f64) -> Pair
     let g = (x - (t - SHIFT)) + 0.015625;
     let i = n / 256;
     let j = n % 256;
-    multiplied(
-        coarse_high(i),
-        coarse_low(i),
-        fine_high(j),
-        fine_low(j),
-        grown(g),
-    )
-}
-
-fn coarse_high(i: usize) -> f64
-    requires { ⌜ i < 177 ⌝ }
-    ensures { λ r. ⌜ r ≡ getD coarseHigh i nan ⌝ }
-{
-    COARSE_HIGH[i]
-}
-
-fn coarse_low(i: usize) -> f64
-    requires { ⌜ i < 177 ⌝ }
-    ensures { λ r. ⌜ r ≡ getD coarseLow i nan ⌝ }
-{
-    COARSE_LOW[i]
-}
-
-fn fine_high(j: usize) -> f64
-    requires { ⌜ j < 256 ⌝ }
-    ensures { λ r. ⌜ r ≡ getD fineHigh j nan ⌝ }
-{
-    FINE_HIGH[j]
-}
-
-fn fine_low(j: usize) -> f64
-    requires { ⌜ j < 256 ⌝ }
-    ensures { λ r. ⌜ r ≡ getD fineLow j nan ⌝ }
-{
-    FINE_LOW[j]
+    multiplied(coarse(i), fine(j), grown(g))
 }
 
 // e^g - 1. The coefficients are fitted to the range, so that none is 1/k! exactly.
@@ -101,11 +73,11 @@ fn grown(g: f64) -> f64
 }
 
 // The leading product of 26 by 26 digits is exact: the rest carries every rounding but the last.
-fn multiplied(eh: f64, el: f64, fh: f64, fl: f64, q: f64) -> Pair
-    ensures { λ r. ⌜ r ≡ product eh el fh fl q ⌝ }
+fn multiplied(e: Pair, f: Pair, q: f64) -> Pair
+    ensures { λ r. ⌜ r ≡ product e f q ⌝ }
 {
-    let ph = eh * fh;
-    let pl = eh * fl + el * (fh + fl);
+    let ph = e.hi * f.hi;
+    let pl = e.hi * f.lo + e.lo * (f.hi + f.lo);
     Pair {
         hi: ph,
         lo: pl + (ph + pl) * q,
@@ -135,20 +107,11 @@ fn exp_far(x: f64) -> f64
     if x < -746.0 {
         return 0.0;
     }
+    let p = exp_pair(0.5 * x);
     if x > 0.0 {
-        return squared(
-            exp_pair(0.5 * x),
-            3.054936363499605e-151,
-            3.273390607896142e150,
-            3.273390607896142e150,
-        );
+        return squared(p, SHRINK, STRETCH, STRETCH);
     }
-    squared(
-        exp_pair(0.5 * x),
-        3.432398830065305e156,
-        2.913414348125081e-157,
-        2.913414348125081e-157,
-    )
+    squared(p, RAISE, LOWER, LOWER)
 }
 
 // Half of e^a, for sinh and cosh: the halving is in the last factor, since e^a itself overflows earlier.
@@ -162,10 +125,5 @@ pub fn half_exp_far(a: f64) -> f64
     if a > 711.0 {
         return 1.0 / 0.0;
     }
-    squared(
-        exp_pair(0.5 * a),
-        3.054936363499605e-151,
-        3.273390607896142e150,
-        1.636695303948071e150,
-    )
+    squared(exp_pair(0.5 * a), SHRINK, STRETCH, HALF_STRETCH)
 }

@@ -1,20 +1,20 @@
 -- The bit patterns of binary64 as numbers: what value each stands for, that their order is that of the values, what the sign's bit does,
 -- and what a change of the exponent's field or a cut of low digits does. Assumes nothing.
 use mathlib.Core.Path.{_≡_, refl, sym, ap, _∙_, subst}
-use mathlib.Core.Logic.{_⊎_, inl, inr}
+use mathlib.Core.Logic.{inl, inr}
 use Prim.Native.Nat.{ℕ, zero, suc, _+_, _-_, _*_, _/_, _%_, _^_, _≤_, _<_}
 use native.Mathlib.Nat.{le-trans, le-of-eq, le-of-lt, lt-of-lt-of-le, not-le-of-lt, lt-of-not-le, eq-or-lt-of-le, mod-eq-of-lt, mul-one, mul-assoc, mul-comm, mul-right-comm, mul-le-mul-right, mul-le-mul-left, mul-lt-mul-of-pos-right, pow-succ', suc-add, add-assoc, add-mul, le-of-mul-le-mul-right, lt-of-mul-lt-mul-right}
 use native.Mathlib.Omega.{arith}
 use mathlib.Core.Bool.{Bool, true, false, not, cond, true≢false}
-use lib.Dec.{T, leb, ltb, eqb, leb→le, le→leb, ltb→lt, nltb→le, eqb→eq, not-T, lit<, lit≤}
+use lib.Dec.{T, leb, ltb, eqb, leb→le, le→leb, ltb→lt, nltb→le, eqb→eq, not-T, lit<}
 use lib.Pow.{pow-add, pow-pos, pow-mono}
 use lib.Ieee.{Float, nan, inf, fin, binary64, odd, ofFields, ofBits, toBits, nanBits, isNan, fits, neg, le, lt}
-use lib.Ieee.Bits.{is-true, is-false, cond-no, ofBits-toBits, toBits-lt, toBits-ofBits, nanBits-is, nanBits-above}
+use lib.Ieee.Bits.{is-true, is-false, cond-no, ofBits-toBits, toBits-ofBits, nanBits-is, nanBits-above}
 use lib.Ieee.Exact.{HasValue, odd-sign}
 use lib.Ieee.Order.{le-of-values}
 use lib.Ieee.Scale.{finite}
 use lib.Ieee.Positive.{positive, positive-finite, positive-of-value, above, above-of-le}
-use Rattle.laws.proofs.Value.{sign, bare, own-fraction, value-finite, finite-no-nan, value-same, value-cross, le-values, lt-of-values, lt-values}
+use Rattle.laws.proofs.Value.{sign, bare, sign-of-odd, value-finite, finite-no-nan, value-same, value-cross, le-values, lt-of-values, lt-values}
 
 -- the pattern of the infinity: each smaller one is that of a finite value without a minus sign
 abbrev pub infBits : ℕ
@@ -71,6 +71,9 @@ ofBits-set b h =
 
     digits : (b : ℕ) → (2 ^ 63 + b) % 2 ^ 52 ≡ b % 2 ^ 52
     digits b = omega arith
+
+digits-in : (b : ℕ) → b % 2 ^ 52 < 2 ^ 52
+digits-in b = omega arith
 
 field-lt : (b : ℕ) → b < infBits → b / 2 ^ 52 < 2047
 field-lt b h = omega arith
@@ -145,9 +148,6 @@ units-lt b c h = elim (eq-or-lt-of-le (fields-le b c h)) [
     digits-lt : (b c : ℕ) → b < c → b / 2 ^ 52 ≡ c / 2 ^ 52 → b % 2 ^ 52 < c % 2 ^ 52
     digits-lt b c h e = omega arith
 
-    digits-in : (b : ℕ) → b % 2 ^ 52 < 2 ^ 52
-    digits-in b = omega arith
-
 pub units-le : (b c : ℕ) → b ≤ c → unitsOf b ≤ unitsOf c
 units-le b c h = elim (eq-or-lt-of-le h) [ inl e ↦ le-of-eq (ap (λ (x : ℕ). unitsOf x) e) | inr l ↦ le-of-lt (units-lt b c l) ]
 
@@ -193,9 +193,6 @@ pub units-under : (b : ℕ) → b < infBits → unitsOf b < 2 ^ 2098
 units-under b h =
     lt-of-lt-of-le (field-top (b / 2 ^ 52) (b % 2 ^ 52) (digits-in b)) (le-trans (mul-le-mul-left (2 ^ 52) (pow-mono (last b h))) (le-of-eq (sym (pow-add 2 52 2046))))
   where
-    digits-in : (b : ℕ) → b % 2 ^ 52 < 2 ^ 52
-    digits-in b = omega arith
-
     last : (b : ℕ) → b < infBits → b / 2 ^ 52 ≤ 2046
     last b h = omega arith
 
@@ -272,20 +269,15 @@ ofBits-bare b =
     digits : (b : ℕ) → b % 2 ^ 63 % 2 ^ 52 ≡ b % 2 ^ 52
     digits b = omega arith
 
-sign-odd : (s : Bool) (q k : ℕ) → sign (odd 53 s q k 1074) ≡ s
-unfolding odd
-sign-odd s zero k = refl
-sign-odd s (suc q) k = refl
-
 sign-fields : (s : Bool) (x t : ℕ) → T (not (isNan (ofFields binary64 s x t))) → sign (ofFields binary64 s x t) ≡ s
 unfolding ofFields isNan
-sign-fields s zero t n = sign-odd s t 0
+sign-fields s zero t n = sign-of-odd 53 s t 0 1074
 sign-fields s (suc x) t n = go (eqb (suc x) 2047) (eqb t 0) n
   where
     go : (a b : Bool) → T (not (isNan (cond a (cond b (inf s) nan) (odd 53 s (2 ^ 52 + t) x 1074)))) → sign (cond a (cond b (inf s) nan) (odd 53 s (2 ^ 52 + t) x 1074)) ≡ s
     go true true m = refl
     go true false m = absurd m
-    go false b m = sign-odd s (2 ^ 52 + t) x
+    go false b m = sign-of-odd 53 s (2 ^ 52 + t) x 1074
 
 pub ofBits-sign : (b : ℕ) → T (not (nanBits binary64 b)) → sign (ofBits binary64 b) ≡ leb (2 ^ 63) b
 ofBits-sign b n =
@@ -342,14 +334,12 @@ bare-back (fin true m e) = refl
 bare-back (fin false m e) = refl
 
 -- ---- the pattern of a value without a minus sign
-no-sign-bit : (x : Float) → T (fits binary64 x) → T (not (isNan x)) → leb (2 ^ 63) (toBits binary64 x) ≡ sign x
-no-sign-bit x F n =
-    let e = ofBits-toBits binary64 x F in
-    sym (ofBits-sign (toBits binary64 x) (subst (λ (t : Bool). T (not t)) (sym (nanBits-is binary64 (toBits binary64 x))) (subst (λ (v : Float). T (not (isNan v))) (sym e) n))) ∙ ap sign e
+value-no-nan : (x : Float) → T (fits binary64 x) → T (not (isNan x)) → T (not (nanBits binary64 (toBits binary64 x)))
+value-no-nan x F n = subst (λ (t : Bool). T (not t)) (sym (nanBits-is binary64 (toBits binary64 x))) (subst (λ (v : Float). T (not (isNan v))) (sym (ofBits-toBits binary64 x F)) n)
 
 -- the sign's bit of the pattern is the sign
 pub toBits-sign-bit : (x : Float) → T (fits binary64 x) → T (not (isNan x)) → sign x ≡ leb (2 ^ 63) (toBits binary64 x)
-toBits-sign-bit x F n = sym (no-sign-bit x F n)
+toBits-sign-bit x F n = ap sign (sym (ofBits-toBits binary64 x F)) ∙ ofBits-sign (toBits binary64 x) (value-no-nan x F n)
 
 at-most-inf : (b : ℕ) → leb (2 ^ 63) b ≡ false → T (not (nanBits binary64 b)) → b ≤ infBits
 at-most-inf b e n =
@@ -358,11 +348,8 @@ at-most-inf b e n =
     go : (b : ℕ) → b < 2 ^ 63 → b % 2 ^ 63 ≤ infBits → b ≤ infBits
     go b h k = omega arith
 
-value-no-nan : (x : Float) → T (fits binary64 x) → T (not (isNan x)) → T (not (nanBits binary64 (toBits binary64 x)))
-value-no-nan x F n = subst (λ (t : Bool). T (not t)) (sym (nanBits-is binary64 (toBits binary64 x))) (subst (λ (v : Float). T (not (isNan v))) (sym (ofBits-toBits binary64 x F)) n)
-
 pub toBits-at-most : (x : Float) → T (fits binary64 x) → T (not (isNan x)) → sign x ≡ false → toBits binary64 x ≤ infBits
-toBits-at-most x F n s = at-most-inf (toBits binary64 x) (no-sign-bit x F n ∙ s) (value-no-nan x F n)
+toBits-at-most x F n s = at-most-inf (toBits binary64 x) (sym (toBits-sign-bit x F n) ∙ s) (value-no-nan x F n)
 
 pub ofBits-inf : ofBits binary64 infBits ≡ inf false
 unfolding ofBits
@@ -493,15 +480,15 @@ units-shift b k h =
     first : (b : ℕ) → 2 ^ 52 ≤ b → suc (b / 2 ^ 52 - 1) ≡ b / 2 ^ 52
     first b h = omega arith
 
+pub shift-less : (b k : ℕ) → b + k * 2 ^ 52 < infBits → b < infBits
+shift-less b k u = omega arith
+
 pub shift-up : (b k a c : ℕ) → 2 ^ 52 ≤ b → b + k * 2 ^ 52 < infBits → 0 < c → HasValue (ofBits binary64 b) false a c → HasValue (ofBits binary64 (b + k * 2 ^ 52)) false (a * 2 ^ k) c
 shift-up b k a c h u C v =
-    let e : a * 2 ^ 1074 ≡ unitsOf b * c = value-cross (ofBits binary64 b) false false a c (unitsOf b) (2 ^ 1074) v (bits-value b (less b k u)) in
+    let e : a * 2 ^ 1074 ≡ unitsOf b * c = value-cross (ofBits binary64 b) false false a c (unitsOf b) (2 ^ 1074) v (bits-value b (shift-less b k u)) in
     value-same (ofBits binary64 (b + k * 2 ^ 52)) false (unitsOf b * 2 ^ k) (2 ^ 1074) (a * 2 ^ k) c (pow-pos 1074)
     (mul-right-comm (unitsOf b) (2 ^ k) c ∙ ap (λ (z : ℕ). z * 2 ^ k) (sym e) ∙ mul-right-comm a (2 ^ 1074) (2 ^ k))
     (subst (λ (n : ℕ). HasValue (ofBits binary64 (b + k * 2 ^ 52)) false n (2 ^ 1074)) (units-shift b k h) (bits-value (b + k * 2 ^ 52) u))
-  where
-    less : (b k : ℕ) → b + k * 2 ^ 52 < infBits → b < infBits
-    less b k u = omega arith
 
 pub shift-down : (b k a c : ℕ) → 2 ^ 52 ≤ b → b + k * 2 ^ 52 < infBits → 0 < c → HasValue (ofBits binary64 (b + k * 2 ^ 52)) false a c → HasValue (ofBits binary64 b) false a (c * 2 ^ k)
 shift-down b k a c h u C v =
@@ -510,10 +497,7 @@ shift-down b k a c h u C v =
     (subst (λ (n : ℕ). HasValue (ofBits binary64 (b + k * 2 ^ 52)) false n (2 ^ 1074)) (units-shift b k h) (bits-value (b + k * 2 ^ 52) u)) in
     value-same (ofBits binary64 b) false (unitsOf b) (2 ^ 1074) a (c * 2 ^ k) (pow-pos 1074)
     (ap (λ (z : ℕ). unitsOf b * z) (mul-comm c (2 ^ k)) ∙ sym (mul-assoc (unitsOf b) (2 ^ k) c) ∙ sym e)
-    (bits-value b (less b k u))
-  where
-    less : (b k : ℕ) → b + k * 2 ^ 52 < infBits → b < infBits
-    less b k u = omega arith
+    (bits-value b (shift-less b k u))
 
 -- ---- a binade: with k more than the pattern of 2 ^ E, k steps of 2 ^ (E - 52) more
 pub binade-up : (j k : ℕ) → j < 972 → k < 2 ^ 52 → HasValue (ofBits binary64 ((1075 + j) * 2 ^ 52 + k)) false ((2 ^ 52 + k) * 2 ^ j) 1
@@ -593,15 +577,15 @@ pub lead26-lt : (x t : ℕ) → t < 2 ^ 52 → lead26 x t < 2 ^ 26
 lead26-lt zero t h = omega arith
 lead26-lt (suc x) t h = omega arith
 
+back : (x : ℕ) → suc x - 1 ≡ x
+back x = omega arith
+
 keep : (x t : ℕ) → fieldUnits x (t / 2 ^ 27 * 2 ^ 27) ≡ lead26 x t * 2 ^ 27 * 2 ^ (x - 1)
 keep zero t = sym (mul-one (t / 2 ^ 27 * 2 ^ 27))
 keep (suc x) t = ap (λ (n : ℕ). n * 2 ^ x) (lead t) ∙ ap (λ (y : ℕ). (2 ^ 25 + t / 2 ^ 27) * 2 ^ 27 * 2 ^ y) (sym (back x))
   where
     lead : (t : ℕ) → 2 ^ 52 + t / 2 ^ 27 * 2 ^ 27 ≡ (2 ^ 25 + t / 2 ^ 27) * 2 ^ 27
     lead t = omega arith
-
-    back : (x : ℕ) → suc x - 1 ≡ x
-    back x = omega arith
 
 pub units-cut : (b : ℕ) → unitsOf (cut b) ≡ lead26 (b / 2 ^ 52) (b % 2 ^ 52) * 2 ^ 27 * 2 ^ (b / 2 ^ 52 - 1)
 units-cut b = ap (λ (x : ℕ). fieldUnits x (cut b % 2 ^ 52)) (field b) ∙ ap (fieldUnits (b / 2 ^ 52)) (digits b) ∙ keep (b / 2 ^ 52) (b % 2 ^ 52)
@@ -615,9 +599,6 @@ units-cut b = ap (λ (x : ℕ). fieldUnits x (cut b % 2 ^ 52)) (field b) ∙ ap 
 more : (x t r : ℕ) → fieldUnits x (t + r) ≡ fieldUnits x t + r * 2 ^ (x - 1)
 more zero t r = ap (λ (n : ℕ). t + n) (sym (mul-one r))
 more (suc x) t r = ap (λ (n : ℕ). n * 2 ^ x) (sym (add-assoc (2 ^ 52) t r)) ∙ add-mul (2 ^ 52 + t) r (2 ^ x) ∙ ap (λ (y : ℕ). (2 ^ 52 + t) * 2 ^ x + r * 2 ^ y) (sym (back x))
-  where
-    back : (x : ℕ) → suc x - 1 ≡ x
-    back x = omega arith
 
 -- what was cut off
 pub units-rest : (b : ℕ) → unitsOf b ≡ unitsOf (cut b) + b % 2 ^ 27 * 2 ^ (b / 2 ^ 52 - 1)

@@ -1,28 +1,28 @@
 -- Sums that are exact, and the sum with a large constant that rounds to a grid. `Is x P N c` says that x is finite and is the signed fraction (P - N) / c.
 -- A sum of multiples of 2 ^ j / 2 ^ k is exact where it has no more than 2 ^ 53 of these steps (`add-exact`). M + x, with M and the sum in a binade of step 1 / 2 ^ k, is the nearest multiple
 -- of the step (`snap`); from it M comes off exactly (`snap-sub`), and what x is more than that is exact too (`rest-exact`). Assumes nothing.
-use mathlib.Core.Path.{_≡_, refl, sym, ap, ap₂, _∙_, subst}
+use mathlib.Core.Path.{_≡_, refl, sym, ap, _∙_, subst}
 use mathlib.Core.Logic.{_⊎_, inl, inr}
-use Prim.Native.Nat.{ℕ, zero, suc, _+_, _-_, _*_, _/_, _%_, _^_, _≤_, _<_, zero-le}
-use native.Mathlib.Nat.{le-trans, le-of-eq, le-of-lt, lt-of-lt-of-le, lt-of-le-of-lt, lt-irrefl, not-le-of-lt, lt-of-not-le, eq-or-lt-of-le, zero-lt-suc, add-zero, zero-add, suc-add, suc-mul, mul-one, one-mul, zero-mul, mul-pos, mul-assoc, mul-comm, mul-left-comm, mul-right-comm, mul-mul-mul-comm, mul-add, add-mul, mul-le-mul-right, mul-le-mul-left, mul-lt-mul-of-pos-right, le-of-mul-le-mul-right, lt-of-mul-lt-mul-right, eq-of-mul-eq-mul-right, le-div-iff-mul-le, div-lt-iff-lt-mul, sub-add-cancel, pow-suc, pow-succ'}
+use Prim.Native.Nat.{ℕ, zero, suc, _+_, _-_, _*_, _/_, _^_, _≤_, _<_, zero-le}
+use native.Mathlib.Nat.{le-trans, le-of-eq, le-of-lt, lt-of-lt-of-le, lt-of-le-of-lt, lt-irrefl, lt-of-not-le, eq-or-lt-of-le, add-zero, zero-add, suc-add, suc-mul, one-mul, zero-mul, mul-pos, mul-assoc, mul-comm, mul-mul-mul-comm, add-mul, mul-le-mul-right, mul-lt-mul-of-pos-right, le-of-mul-le-mul-right, eq-of-mul-eq-mul-right, le-div-iff-mul-le, div-lt-iff-lt-mul, sub-add-cancel, pow-succ'}
 use native.Mathlib.Omega.{arith}
 use mathlib.Core.Bool.{Bool, true, false, not, cond, true≢false, false≢true}
-use lib.Dec.{T, ltb, leb, ltb→lt, nltb→le, lit<, lit≤}
+use lib.Dec.{T, ltb, ltb→lt, nltb→le, lit<, lit≤}
 use lib.Pow.{pow-add, pow-pos, pow-mono, pow-lt}
 use lib.Ieee.{Float, nan, inf, fin, Format, binary64, prec, emax, low, up, down, size, odd, units, round, add, sub, mul, neg, le, ofBits, toBits, fits}
-use lib.Ieee.Digits.{size-lt, size-le, size-reaches}
-use lib.Ieee.Fits.{down-pos, add-fits, sub-fits, round-fits, round-is}
-use lib.Ieee.Bits.{ofBits-toBits, ofBits-fits}
+use lib.Ieee.Digits.{size-lt, size-le}
+use lib.Ieee.Fits.{down-pos, round-fits, round-is}
+use lib.Ieee.Bits.{ofBits-fits}
 use lib.Ieee.Exact.{HasValue, round-exact}
-use lib.Ieee.Nearest.{closest, closest-same, closest-mono, div-same}
+use lib.Ieee.Nearest.{closest, closest-same, closest-mono}
 use lib.Ieee.Order.{drop, kept, transfer}
 use lib.Ieee.Scale.{finite, round-same, round-val}
 use lib.Ieee.Positive.{num, den, den-pos, value→cross}
-use Rattle.laws.proofs.Order.{posPart, negPart, Le, Le→le, le→Le, Rounds, plus, less, add-rounds, mul-rounds}
+use Rattle.laws.proofs.Order.{posPart, negPart, Le→le, le→Le, Rounds, plus, less, add-rounds, mul-rounds}
 use Rattle.laws.proofs.Relative.{closest-half, closest-exact, nonnegative-of-value, sub-round}
-use Rattle.laws.proofs.Value.{sign, value-finite, value-same, value-cross}
+use Rattle.laws.proofs.Value.{sign, sign-of-odd, value-same}
 use Rattle.laws.proofs.Bits.{infBits, unitsOf, bits-value, units-steps, toBits-back}
-use Rattle.laws.proofs.Power.{unique, Digits, digits}
+use Rattle.laws.proofs.Power.{unique, pow-lt-back, digits}
 
 -- ---- a finite value as a signed fraction
 pub record Is (x : Float) (P N c : ℕ) : Type 0 where
@@ -64,7 +64,7 @@ is-same {x} {P} {N} {c} P' N' d C h i = record {
       eq-of-mul-eq-mul-right c C (p * d + N' * u) (P' * u + n * d) (omega arith);
 }
 
--- ---- the order of signed fractions: one of the two sides is replaced by a fraction p - n / u that it equals
+-- ---- the order of signed fractions: one of the two sides is replaced by a fraction (p - n) / u that it equals
 swap-le : (P N c p n u A B d : ℕ) → 0 < c → p * c + N * u ≡ P * u + n * c → P * d + B * c ≤ A * c + N * d → p * d + B * u ≤ A * u + n * d
 swap-le P N c p n u A B d C k h =
     let l : (p * c + N * u) * d ≡ (P * u + n * c) * d = ap (λ (z : ℕ). z * d) k in
@@ -76,9 +76,6 @@ swap-ge P N c p n u A B d C k h =
     let l : (p * c + N * u) * d ≡ (P * u + n * c) * d = ap (λ (z : ℕ). z * d) k in
     let m : (A * c + N * d) * u ≤ (P * d + B * c) * u = mul-le-mul-right u h in
     le-of-mul-le-mul-right {k = c} (omega arith) C
-
-turn : (a b c d : ℕ) → a + b ≤ c + d → b + a ≤ d + c
-turn a b c d h = omega arith
 
 pub is-le : {P N c P' N' d : ℕ} (x y : Float) → 0 < c → 0 < d → Is x P N c → Is y P' N' d → P * d + N' * c ≤ P' * c + N * d → T (le x y)
 is-le {P} {N} {c} {P'} {N'} {d} x y C D i j h =
@@ -95,35 +92,29 @@ le-is {P} {N} {c} {P'} {N'} {d} x y C D i j t =
     swap-ge (posPart y) (negPart y) v P' N' d P N c (den-pos y) l a
 
 -- with its sign where it is not zero
+apart : (a b n p d : ℕ) → b + n ≡ p → a + n * d ≡ p * d → a ≡ b * d
+apart a b n p d e k = let l : (b + n) * d ≡ p * d = ap (λ (z : ℕ). z * d) e in omega arith
+
+clash : (a b z : ℕ) → a < b → a ≡ b + z → ⊥
+clash a b z l e = omega arith
+
 pub is-value : {P N c : ℕ} (x : Float) → 0 < c → Is x P N c → N < P → HasValue x false (P - N) c
 is-value nan C i h = absurd (i .bounded)
 is-value (inf s) C i h = absurd (i .bounded)
-is-value {P} {N} {c} (fin false m e) C i h = let k = i .cross in (refl, lit (m * up e * c) (P - N) N P (down e) (sub-add-cancel (le-of-lt h)) (omega arith))
-  where
-    lit : (a b n p d : ℕ) → b + n ≡ p → a + n * d ≡ p * d → a ≡ b * d
-    lit a b n p d e k = let l : (b + n) * d ≡ p * d = ap (λ (z : ℕ). z * d) e in omega arith
+is-value {P} {N} {c} (fin false m e) C i h = let k = i .cross in (refl, apart (m * up e * c) (P - N) N P (down e) (sub-add-cancel (le-of-lt h)) (omega arith))
 is-value {P} {N} {c} (fin true m e) C i h =
     let k = i .cross in
     let l : N * down e < P * down e = mul-lt-mul-of-pos-right h (down-pos e) in
     absurd (clash (N * down e) (P * down e) (m * up e * c) l (omega arith))
-  where
-    clash : (a b z : ℕ) → a < b → a ≡ b + z → ⊥
-    clash a b z l e = omega arith
 
 pub is-value-neg : {P N c : ℕ} (x : Float) → 0 < c → Is x P N c → P < N → HasValue x true (N - P) c
 is-value-neg nan C i h = absurd (i .bounded)
 is-value-neg (inf s) C i h = absurd (i .bounded)
-is-value-neg {P} {N} {c} (fin true m e) C i h = let k = i .cross in (refl, lit (m * up e * c) (N - P) P N (down e) (sub-add-cancel (le-of-lt h)) (omega arith))
-  where
-    lit : (a b n p d : ℕ) → b + n ≡ p → a + n * d ≡ p * d → a ≡ b * d
-    lit a b n p d e k = let l : (b + n) * d ≡ p * d = ap (λ (z : ℕ). z * d) e in omega arith
+is-value-neg {P} {N} {c} (fin true m e) C i h = let k = i .cross in (refl, apart (m * up e * c) (N - P) P N (down e) (sub-add-cancel (le-of-lt h)) (omega arith))
 is-value-neg {P} {N} {c} (fin false m e) C i h =
     let k = i .cross in
     let l : P * down e < N * down e = mul-lt-mul-of-pos-right h (down-pos e) in
     absurd (clash (P * down e) (N * down e) (m * up e * c) l (omega arith))
-  where
-    clash : (a b z : ℕ) → a < b → a ≡ b + z → ⊥
-    clash a b z l e = omega arith
 
 -- ---- a rounded sum or product, at any fractions that the operands equal
 pub rounds-same : {f : Format} {P N c : ℕ} {z : Float} (P' N' d : ℕ) → 0 < c → 0 < d → P * d + N' * c ≡ P' * c + N * d → Rounds f P N c z → Rounds f P' N' d z
@@ -220,39 +211,27 @@ round-steps s q j k Q K L = elim (eq-or-lt-of-le Q) [
         ∙ sym (mul-assoc (q * 2 ^ j) (2 ^ (1074 - k)) (2 ^ k))
         ∙ ap (λ (z : ℕ). z * 2 ^ k) (mul-assoc q (2 ^ j) (2 ^ (1074 - k)) ∙ ap (λ (z : ℕ). q * z) (sym (pow-add 2 j (1074 - k))))
 
+above-part : (r a b : ℕ) → r + a ≡ b → a ≤ b
+above-part r a b e = omega arith
+
+few-steps : (p n : ℕ) → p ≤ n + 2 ^ 53 → p - n ≤ 2 ^ 53
+few-steps p n a = omega arith
+
 pub rounds-steps : {z : Float} (p n j k : ℕ) → k ≤ 1074 → j ≤ 970 + k → p ≤ n + 2 ^ 53 → n ≤ p + 2 ^ 53 → Rounds binary64 (p * 2 ^ j) (n * 2 ^ j) (2 ^ k) z → Is z (p * 2 ^ j) (n * 2 ^ j) (2 ^ k)
 rounds-steps {z} p n j k K L a b (plus r e g) =
-    let l : n ≤ p = le-of-mul-le-mul-right {k = 2 ^ j} (from r (n * 2 ^ j) (p * 2 ^ j) e) (pow-pos j) in
-    let w : (p - n) * 2 ^ j ≡ r = same (p - n) n p (2 ^ j) r (sub-add-cancel l) e in
-    let v : HasValue z false r (2 ^ k) = subst (λ (t : Float). HasValue t false r (2 ^ k)) (sym g) (subst (λ (t : ℕ). HasValue (round binary64 false t (2 ^ k)) false t (2 ^ k)) w (round-steps false (p - n) j k (few p n a) K L)) in
+    let l : n ≤ p = le-of-mul-le-mul-right {k = 2 ^ j} (above-part r (n * 2 ^ j) (p * 2 ^ j) e) (pow-pos j) in
+    let w : (p - n) * 2 ^ j ≡ r = sym (apart r (p - n) n p (2 ^ j) (sub-add-cancel l) e) in
+    let v : HasValue z false r (2 ^ k) = subst (λ (t : Float). HasValue t false r (2 ^ k)) (sym g) (subst (λ (t : ℕ). HasValue (round binary64 false t (2 ^ k)) false t (2 ^ k)) w (round-steps false (p - n) j k (few-steps p n a) K L)) in
     is-same (p * 2 ^ j) (n * 2 ^ j) (2 ^ k) (pow-pos k) (scale r (n * 2 ^ j) (p * 2 ^ j) (2 ^ k) e) (is-plus z r (2 ^ k) v)
   where
-    from : (r a b : ℕ) → r + a ≡ b → a ≤ b
-    from r a b e = omega arith
-
-    few : (p n : ℕ) → p ≤ n + 2 ^ 53 → p - n ≤ 2 ^ 53
-    few p n a = omega arith
-
-    same : (d n p t r : ℕ) → d + n ≡ p → r + n * t ≡ p * t → d * t ≡ r
-    same d n p t r h e = let k : (d + n) * t ≡ p * t = ap (λ (z : ℕ). z * t) h in omega arith
-
     scale : (r a b c : ℕ) → r + a ≡ b → r * c + a * c ≡ b * c + 0 * c
     scale r a b c e = let k : (r + a) * c ≡ b * c = ap (λ (z : ℕ). z * c) e in omega arith
 rounds-steps {z} p n j k K L a b (less r e g) =
-    let l : p ≤ n = le-of-mul-le-mul-right {k = 2 ^ j} (from r (p * 2 ^ j) (n * 2 ^ j) e) (pow-pos j) in
-    let w : (n - p) * 2 ^ j ≡ r = same (n - p) p n (2 ^ j) r (sub-add-cancel l) e in
-    let v : HasValue z true r (2 ^ k) = subst (λ (t : Float). HasValue t true r (2 ^ k)) (sym g) (subst (λ (t : ℕ). HasValue (round binary64 true t (2 ^ k)) true t (2 ^ k)) w (round-steps true (n - p) j k (few n p b) K L)) in
+    let l : p ≤ n = le-of-mul-le-mul-right {k = 2 ^ j} (above-part r (p * 2 ^ j) (n * 2 ^ j) e) (pow-pos j) in
+    let w : (n - p) * 2 ^ j ≡ r = sym (apart r (n - p) p n (2 ^ j) (sub-add-cancel l) e) in
+    let v : HasValue z true r (2 ^ k) = subst (λ (t : Float). HasValue t true r (2 ^ k)) (sym g) (subst (λ (t : ℕ). HasValue (round binary64 true t (2 ^ k)) true t (2 ^ k)) w (round-steps true (n - p) j k (few-steps n p b) K L)) in
     is-same (p * 2 ^ j) (n * 2 ^ j) (2 ^ k) (pow-pos k) (scale r (p * 2 ^ j) (n * 2 ^ j) (2 ^ k) e) (is-less z r (2 ^ k) v)
   where
-    from : (r a b : ℕ) → r + a ≡ b → a ≤ b
-    from r a b e = omega arith
-
-    few : (p n : ℕ) → p ≤ n + 2 ^ 53 → p - n ≤ 2 ^ 53
-    few p n a = omega arith
-
-    same : (d n p t r : ℕ) → d + n ≡ p → r + n * t ≡ p * t → d * t ≡ r
-    same d n p t r h e = let k : (d + n) * t ≡ p * t = ap (λ (z : ℕ). z * t) h in omega arith
-
     scale : (r a b c : ℕ) → r + a ≡ b → 0 * c + b * c ≡ a * c + r * c
     scale r a b c e = let k : (r + a) * c ≡ b * c = ap (λ (z : ℕ). z * c) e in omega arith
 
@@ -300,9 +279,6 @@ unfolding sub
 sub-fine x y K a b i i' = add-fine x (neg y) K a b i (is-neg y i')
 
 -- ---- rounding in a binade of step 1 / 2 ^ k: to the nearest multiple of the step
-pow-lt-back : (i p : ℕ) → 2 ^ i < 2 ^ p → i < p
-pow-lt-back i p h = lt-of-not-le (λ (g : p ≤ i). lt-irrefl (2 ^ i) (lt-of-lt-of-le h (pow-mono g)))
-
 size-is : (a n : ℕ) → 2 ^ a ≤ n → n < 2 ^ suc a → size n ≡ suc a
 size-is a n lo hi = equal a (size n) (size-le n (suc a) hi) (pow-lt-back a (size n) (lt-of-le-of-lt lo (size-lt n)))
   where
@@ -454,11 +430,6 @@ snap-sub {P} {N} {c} {μ} {k} t M S K h m =
     few' q μ h = omega arith
 
 -- the same, with its sign, where the sum is no less than M
-sign-odd : (d : ℕ) (s : Bool) (q k l : ℕ) → sign (odd d s q k l) ≡ s
-unfolding odd
-sign-odd d s zero k l = refl
-sign-odd d s (suc q) k l = refl
-
 pub round-sign : (f : Format) (s : Bool) (a c : ℕ) → sign (round f s a c) ≡ s
 unfolding units
 round-sign f s a c = ap sign (round-is f s a c) ∙ go (kept (prec f) (a * 2 ^ low f) c) (drop (prec f) (a * 2 ^ low f) c)
@@ -467,17 +438,14 @@ round-sign f s a c = ap sign (round-is f s a c) ∙ go (kept (prec f) (a * 2 ^ l
     go q k = pick (ltb (q * 2 ^ k) (2 ^ (low f + suc (emax f))))
       where
         pick : (b : Bool) → sign (cond b (odd (suc (prec f)) s q k (low f)) (inf s)) ≡ s
-        pick true = sign-odd (suc (prec f)) s q k (low f)
+        pick true = sign-of-odd (suc (prec f)) s q k (low f)
         pick false = refl
 
 pub is-value-sign : {P N c : ℕ} (x : Float) → Is x P N c → sign x ≡ false → N ≤ P → HasValue x false (P - N) c
 is-value-sign nan i s h = absurd (i .bounded)
 is-value-sign (inf t) i s h = absurd (i .bounded)
 is-value-sign (fin true m e) i s h = absurd (true≢false s)
-is-value-sign {P} {N} {c} (fin false m e) i s h = let k = i .cross in (refl, lit (m * up e * c) (P - N) N P (down e) (sub-add-cancel h) (omega arith))
-  where
-    lit : (a b n p d : ℕ) → b + n ≡ p → a + n * d ≡ p * d → a ≡ b * d
-    lit a b n p d e k = let l : (b + n) * d ≡ p * d = ap (λ (z : ℕ). z * d) e in omega arith
+is-value-sign {P} {N} {c} (fin false m e) i s h = let k = i .cross in (refl, apart (m * up e * c) (P - N) N P (down e) (sub-add-cancel h) (omega arith))
 
 pub snap-sub-value : {P N c μ k : ℕ} (t M : Float) (S : Snapped P N c μ k t) → k ≤ 1074 → HasValue M false μ (2 ^ k) → μ ≤ S .q → HasValue (sub binary64 t M) false (S .q - μ) (2 ^ k)
 snap-sub-value {P} {N} {c} {μ} {k} t M S K m h =
@@ -615,12 +583,12 @@ left-over q μ p n i k K f h h' = elim (le-or-le (1074 - k) i) [
         j-low = zero-le;
         p-low = zero-le;
         n-low = zero-le;
-        same = nothing (p * 2 ^ i + μ * 2 ^ (1074 - k)) (n * 2 ^ i + q * 2 ^ (1074 - k)) (coarse q μ p n (2 ^ (1074 - k)) (2 ^ (i - (1074 - k))) (2 ^ i) (pow-pos (1074 - k)) (apart i (1074 - k) g) h h');
+        same = nothing (p * 2 ^ i + μ * 2 ^ (1074 - k)) (n * 2 ^ i + q * 2 ^ (1074 - k)) (coarse q μ p n (2 ^ (1074 - k)) (2 ^ (i - (1074 - k))) (2 ^ i) (pow-pos (1074 - k)) (split i (1074 - k) g) h h');
       }
   | inr g ↦ elim (trichotomy q μ) [
     | inl e ↦ record { p = p; n = n; j = i; j-low = cap i k g; p-low = omega arith; n-low = omega arith; same = alike (p * 2 ^ i) (n * 2 ^ i) q μ (2 ^ (1074 - k)) e }
     | inr d ↦
-        let e = apart (1074 - k) i g in
+        let e = split (1074 - k) i g in
         let B = 2 ^ (1074 - k - i) in
         let r = narrow q μ p n B f d (fine-cut q μ p n (2 ^ (1074 - k)) B (2 ^ i) (pow-pos i) e h) (fine-cut' q μ p n (2 ^ (1074 - k)) B (2 ^ i) (pow-pos i) e h') in
         record { p = p + μ * B; n = n + q * B; j = i; j-low = cap i k g; p-low = r .0; n-low = r .1; same = moved p n q μ (2 ^ (1074 - k)) B (2 ^ i) e }
@@ -630,8 +598,8 @@ left-over q μ p n i k K f h h' = elim (le-or-le (1074 - k) i) [
     cap : (i k : ℕ) → i ≤ 1074 - k → i ≤ 970 + 1074
     cap i k h = omega arith
 
-    apart : (a b : ℕ) → b ≤ a → 2 ^ a ≡ 2 ^ (a - b) * 2 ^ b
-    apart a b h = ap (λ (z : ℕ). 2 ^ z) (sym (sub-add-cancel h)) ∙ pow-add 2 (a - b) b
+    split : (a b : ℕ) → b ≤ a → 2 ^ a ≡ 2 ^ (a - b) * 2 ^ b
+    split a b h = ap (λ (z : ℕ). 2 ^ z) (sym (sub-add-cancel h)) ∙ pow-add 2 (a - b) b
 
     alike : (a b q μ A : ℕ) → q ≡ μ → a + μ * A + b ≡ a + (b + q * A)
     alike a b q μ A e = let l : q * A ≡ μ * A = ap (λ (z : ℕ). z * A) e in omega arith

@@ -1,12 +1,12 @@
 -- A part of a buffer that was lent and came back: `putMid a k xs ys` is xs with ys in the place of the k elements from a on. Here: what it is for a part at the start, for a part to the end,
 -- and for one such part after the other, as `fill(&mut out[0..a]); climb(&mut out[a..])` leaves them. Assumes nothing.
-use mathlib.Core.Path.{_≡_, refl, sym, ap, _∙_, subst}
-use mathlib.Core.List.{List, [], _∷_, _++_, append-assoc, append-nil}
-use Prim.Native.Nat.{ℕ, zero, suc, _+_, _-_, min, _≤_, _<_}
+use mathlib.Core.Path.{_≡_, sym, ap, _∙_}
+use mathlib.Core.List.{List, [], _++_, append-nil}
+use Prim.Native.Nat.{ℕ, _+_, _-_, min, _≤_}
 use native.Mathlib.Nat.{le-of-eq, sub-zero}
 use native.Mathlib.Omega.{arith}
 use lib.ListN.{length, take, drop, length-append, length-take, length-drop, drop-of-length-le}
-use lib.Seq.{take-at, drop-at, length-take-le, drop-drop, drop-append-add}
+use lib.Seq.{take-at, drop-at, length-take-le}
 use borrow.Rule.Slice.PartMut.{midOf, postOf, putMid}
 
 module _ {A : Type 0} where

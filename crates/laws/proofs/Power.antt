@@ -1,21 +1,20 @@
 -- Two values that a format holds and that are one number are equal as data; products that are exact, by a power of two above all; the powers of two by their patterns.
 -- Assumes nothing.
 use mathlib.Core.Path.{_≡_, refl, sym, ap, _∙_, subst}
-use mathlib.Core.Logic.{_⊎_, inl, inr}
 use Prim.Native.Nat.{ℕ, zero, suc, _+_, _-_, _*_, _/_, _%_, _^_, _≤_, _<_}
-use native.Mathlib.Nat.{le-trans, le-of-eq, le-of-lt, lt-of-lt-of-le, lt-of-le-of-lt, lt-irrefl, not-le-of-lt, lt-of-not-le, zero-lt-suc, mul-one, one-mul, zero-mul, mul-pos, mul-assoc, mul-comm, mul-left-comm, mul-right-comm, mul-mul-mul-comm, mul-le-mul-right, mul-lt-mul-of-pos-right, lt-of-mul-lt-mul-right, eq-of-mul-eq-mul-right, pow-suc, pow-succ', add-comm, sub-add-cancel}
+use native.Mathlib.Nat.{le-trans, le-of-eq, lt-of-lt-of-le, lt-of-le-of-lt, lt-irrefl, lt-of-not-le, zero-lt-suc, mul-one, one-mul, zero-mul, mul-pos, mul-assoc, mul-comm, mul-left-comm, mul-right-comm, mul-mul-mul-comm, mul-le-mul-right, mul-lt-mul-of-pos-right, lt-of-mul-lt-mul-right, eq-of-mul-eq-mul-right, pow-suc, pow-succ', sub-add-cancel}
 use native.Mathlib.Omega.{arith}
-use mathlib.Core.Bool.{Bool, true, false, not, _&&_, cond}
+use mathlib.Core.Bool.{Bool, true, false, not, _&&_}
 use lib.IntN.{ℤ, pos, negsuc}
 use lib.Dec.{T, ltb, leb, eqb, eqb→eq, lit<, lit≤}
-use lib.Pow.{pow-add, pow-pos, pow-mono, pow-lt}
+use lib.Pow.{pow-add, pow-pos, pow-mono}
 use lib.Ieee.{Float, nan, inf, fin, Format, binary64, prec, emax, low, up, down, unlike, round, mul, ofBits, toBits, fits}
 use lib.Ieee.Fits.{up-pos, down-pos, and-l, mul-fits}
-use lib.Ieee.Bits.{ofBits-toBits, ofBits-fits}
+use lib.Ieee.Bits.{ofBits-fits}
 use lib.Ieee.Exact.{HasValue, round-exact}
 use lib.Ieee.Scale.{finite, round-same}
-use Rattle.laws.proofs.Value.{sign, bare, value-finite, value-sign, value-same, value-cross}
-use Rattle.laws.proofs.Bits.{infBits, fieldUnits, unitsOf, bits-value, units-shift, units-le, units-under, bare-fits, bare-finite, bare-sign, toBits-finite, toBits-value}
+use Rattle.laws.proofs.Value.{sign, bare, value-finite, value-same, value-cross}
+use Rattle.laws.proofs.Bits.{infBits, fieldUnits, unitsOf, bits-value, units-shift, units-le, units-under, shift-less, bare-fits, bare-finite, bare-sign, toBits-finite, toBits-value}
 
 -- ---- one number, one value
 even-odd : (m t : ℕ) → m % 2 ≡ 1 → m ≡ 2 * t → ⊥
@@ -181,7 +180,7 @@ like : (s : Bool) → unlike s false ≡ s
 like true = refl
 like false = refl
 
-pow-lt-back : (i p : ℕ) → 2 ^ i < 2 ^ p → i < p
+pub pow-lt-back : (i p : ℕ) → 2 ^ i < 2 ^ p → i < p
 pow-lt-back i p h = lt-of-not-le (λ (g : p ≤ i). lt-irrefl (2 ^ i) (lt-of-lt-of-le h (pow-mono g)))
 
 pub scale-up : (x y : Float) (s : Bool) (a c k : ℕ) → T (fits binary64 x) → 0 < c → HasValue x s a c → HasValue y false (2 ^ k) 1 → a * 2 ^ k < 2 ^ 1024 * c → HasValue (mul binary64 x y) s (a * 2 ^ k) c
@@ -231,12 +230,9 @@ scale-bits-up b k h u K =
     let y = ofBits binary64 ((1023 + k) * 2 ^ 52) in
     unique binary64 (mul binary64 x y) (ofBits binary64 (b + k * 2 ^ 52)) false (unitsOf b * 2 ^ k) (2 ^ 1074) (unitsOf (b + k * 2 ^ 52)) (2 ^ 1074) (pow-pos 1074) (pow-pos 1074)
     (mul-fits binary64 x y) (ofBits-fits binary64 (b + k * 2 ^ 52))
-    (scale-up x y false (unitsOf b) (2 ^ 1074) k (ofBits-fits binary64 b) (pow-pos 1074) (bits-value b (less b k u)) (power-up k K)
+    (scale-up x y false (unitsOf b) (2 ^ 1074) k (ofBits-fits binary64 b) (pow-pos 1074) (bits-value b (shift-less b k u)) (power-up k K)
     (lt-of-lt-of-le (subst (λ (z : ℕ). z < 2 ^ 2098) (units-shift b k h) (units-under (b + k * 2 ^ 52) u)) (le-of-eq (pow-add 2 1024 1074))))
     (bits-value (b + k * 2 ^ 52) u) (ap (λ (z : ℕ). z * 2 ^ 1074) (sym (units-shift b k h)))
-  where
-    less : (b k : ℕ) → b + k * 2 ^ 52 < infBits → b < infBits
-    less b k u = omega arith
 
 pub scale-bits-down : (b k : ℕ) → 2 ^ 52 ≤ b → b + k * 2 ^ 52 < infBits → k < 1023 → mul binary64 (ofBits binary64 (b + k * 2 ^ 52)) (ofBits binary64 ((1023 - k) * 2 ^ 52)) ≡ ofBits binary64 b
 scale-bits-down b k h u K =
@@ -248,8 +244,5 @@ scale-bits-down b k h u K =
     (scale-down x y false (unitsOf (b + k * 2 ^ 52)) (2 ^ 1074) k (ofBits-fits binary64 (b + k * 2 ^ 52)) (pow-pos 1074) (bits-value (b + k * 2 ^ 52) u) (power-down k K)
     (le-trans (le-of-eq (ap (λ (z : ℕ). z * 2 ^ k) (pow-add 2 52 1022) ∙ mul-right-comm (2 ^ 52) (2 ^ 1022) (2 ^ k)))
     (mul-le-mul-right (2 ^ 1022) (le-trans (mul-le-mul-right (2 ^ k) (units-le (2 ^ 52) b h)) (le-of-eq (sym e))))))
-    (bits-value b (less b k u))
+    (bits-value b (shift-less b k u))
     (ap (λ (z : ℕ). z * 2 ^ 1074) e ∙ mul-assoc (unitsOf b) (2 ^ k) (2 ^ 1074) ∙ ap (λ (z : ℕ). unitsOf b * z) (mul-comm (2 ^ k) (2 ^ 1074)))
-  where
-    less : (b k : ℕ) → b + k * 2 ^ 52 < infBits → b < infBits
-    less b k u = omega arith

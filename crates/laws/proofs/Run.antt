@@ -2,7 +2,7 @@
 use mathlib.Core.Path.{_≡_, refl, sym, ap, _∙_, subst}
 use mathlib.Core.Logic.{_⊎_, inl, inr}
 use Prim.Native.Nat.{ℕ, zero, suc, _+_, _-_, _≤_, _<_}
-use native.Mathlib.Nat.{le-refl, le-of-eq, le-trans, le-suc, lt-irrefl, lt-of-lt-of-le, add-zero, add-suc, suc-add, eq-or-lt-of-le, sub-eq-zero-of-le}
+use native.Mathlib.Nat.{le-refl, le-of-eq, le-trans, le-suc, add-zero, add-suc, suc-add, eq-or-lt-of-le, sub-eq-zero-of-le}
 use native.Mathlib.Numerals.{add-one}
 use native.Mathlib.Omega.{arith}
 use mathlib.Core.Bool.{Bool, true, false}

@@ -2,12 +2,12 @@
 -- Laws for the start, for one store and for two, for what is read meanwhile, and for the full buffer. Assumes nothing.
 use mathlib.Core.Path.{_≡_, refl, sym, ap, _∙_, subst}
 use mathlib.Core.List.{List, [], _∷_, _++_, append-assoc, append-nil}
-use Prim.Native.Nat.{ℕ, zero, suc, _+_, _-_, _≤_, _<_, zero-le}
-use native.Mathlib.Nat.{le-of-eq, le-of-lt, le-trans, lt-of-lt-of-le, add-zero, add-suc, suc-add}
+use Prim.Native.Nat.{ℕ, suc, _+_, _-_, _≤_, _<_, zero-le}
+use native.Mathlib.Nat.{le-of-lt, add-zero, add-suc, suc-add}
 use native.Mathlib.Numerals.{add-one}
 use native.Mathlib.Omega.{arith}
-use lib.ListN.{length, take, drop, getD, set, length-append, length-take, length-drop, length-set, drop-of-length-le, List·getD-append}
-use lib.Seq.{drop-cons, set-at, take-at, drop-at, getD-append-add, getD-drop, getD-take, length-take-le, take-length, drop-length, take-suc}
+use lib.ListN.{length, take, drop, getD, set, length-append, length-set, drop-of-length-le, List·getD-append}
+use lib.Seq.{drop-cons, set-at, take-at, drop-at, getD-append-add, getD-drop, getD-take, length-take-le, take-length, take-suc}
 
 pub record Seam {A : Type 0} (d p : List A) (n : ℕ) (out : List A) : Type 0 where
   pub count : length p ≡ n

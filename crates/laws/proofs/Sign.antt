@@ -1,13 +1,13 @@
 -- The minus sign: it passes through products and quotients, NaN and infinities included, and through a sum unless the sum is an exact zero of two unlike signs, which is +0 both ways.
 -- Comparisons turn around. Assumes nothing.
-use mathlib.Core.Path.{_≡_, refl, sym, ap, ap₂, _∙_, subst}
-use Prim.Native.Nat.{ℕ, zero, suc, _+_, _-_, _*_, _≤_, _<_}
-use native.Mathlib.Nat.{mul-comm, add-comm, lt-irrefl}
+use mathlib.Core.Path.{_≡_, refl, sym, ap, ap₂, _∙_}
+use Prim.Native.Nat.{ℕ, zero, _+_, _-_, _*_, _≤_, _<_}
+use native.Mathlib.Nat.{mul-comm, add-comm}
 use native.Mathlib.Omega.{arith}
 use mathlib.Core.Bool.{Bool, true, false, not, _&&_, _||_, Bool·beq, cond, true≢false}
 use lib.IntN.{pos}
-use lib.Dec.{T, ltb, eqb, ltb→lt, nltb→le, lt→ltb, eqb→eq, eqb-refl}
-use lib.Ieee.{Float, nan, inf, fin, Format, up, down, unlike, round, neg, sum, add, sub, mul, div, below, level, lt, eq, le, ne, isNan}
+use lib.Dec.{T, ltb, eqb, ltb→lt, nltb→le, eqb→eq}
+use lib.Ieee.{Float, nan, inf, fin, Format, up, down, unlike, round, neg, sum, add, sub, mul, div, level, lt, eq, le, ne, isNan}
 use lib.Ieee.Exact.{HasValue}
 use lib.Ieee.Fits.{eq→eqb}
 use lib.Ieee.Scale.{finite}
@@ -76,10 +76,6 @@ round-not-l f s t a c = ap (λ (u : Bool). round f u a c) (unlike-not-l s t) ∙
 
 round-not-r : (f : Format) (s t : Bool) (a c : ℕ) → round f (unlike s (not t)) a c ≡ neg (round f (unlike s t) a c)
 round-not-r f s t a c = ap (λ (u : Bool). round f u a c) (unlike-not-r s t) ∙ round-not f (unlike s t) a c
-
-neg-cond : (b : Bool) (x y : Float) → neg (cond b x y) ≡ cond b (neg x) (neg y)
-neg-cond true x y = refl
-neg-cond false x y = refl
 
 -- ---- products and quotients
 neg-inf : (b s t : Bool) → s ≡ not t → cond b nan (inf s) ≡ neg (cond b nan (inf t))

@@ -1,15 +1,15 @@
 -- A finite value as a signed fraction: `HasValue x s a c` says that x is finite, has the sign s and the size a / c.
 -- Here: what follows of x and of other fractions, and the order of two values without a minus sign, zero included. Assumes nothing.
-use mathlib.Core.Path.{_≡_, refl, sym, ap, _∙_, subst}
+use mathlib.Core.Path.{_≡_, refl, sym, ap, _∙_}
 use mathlib.Core.Logic.{_⊎_, inl, inr}
-use Prim.Native.Nat.{ℕ, zero, suc, _+_, _*_, _≤_, _<_}
+use Prim.Native.Nat.{ℕ, zero, suc, _*_, _≤_, _<_}
 use native.Mathlib.Nat.{le-of-eq, le-of-lt, lt-of-not-le, not-le-of-lt, mul-right-comm, eq-of-mul-eq-mul-right}
 use mathlib.Core.Bool.{Bool, true, false, not, _&&_, _||_, true≢false}
 use lib.Dec.{T, ltb, eqb, eqb→eq, ltb→lt, lt→ltb}
-use lib.Ieee.{Float, nan, inf, fin, up, down, isNan, le, lt}
+use lib.Ieee.{Float, nan, inf, fin, up, down, odd, isNan, le, lt}
 use lib.Ieee.Fits.{and-l, down-pos}
 use lib.Ieee.Exact.{HasValue}
-use lib.Ieee.Order.{transfer, le-of-values}
+use lib.Ieee.Order.{transfer}
 use lib.Ieee.Scale.{finite}
 use lib.Ieee.Positive.{num, den}
 
@@ -23,6 +23,11 @@ abbrev pub bare : Float → Float
 bare nan = nan
 bare (inf s) = inf false
 bare (fin s m e) = fin false m e
+
+pub sign-of-odd : (d : ℕ) (s : Bool) (q k l : ℕ) → sign (odd d s q k l) ≡ s
+unfolding odd
+sign-of-odd d s zero k l = refl
+sign-of-odd d s (suc q) k l = refl
 
 -- ---- one value, several fractions
 pub own-fraction : (x : Float) → T (finite x) → HasValue x (sign x) (num x) (den x)

@@ -4,10 +4,7 @@
 ghost use mathlib.Core.Path.{_≡_};
 ghost use Prim.Native.Nat.{_<_};
 ghost use Rattle.logarithm.specs.Ln.{lnOf, lnWide, lnNarrow};
-use crate::tables::EXCESSES;
-use crate::tables::LOGARITHMS_HIGH;
-use crate::tables::LOGARITHMS_LOW;
-use crate::tables::RECIPROCALS;
+use crate::tables::row_of;
 use machine::constants::not_a_number;
 
 // ln 2 in two parts: e times the first, and a logarithm of the table added, are exact
@@ -60,9 +57,9 @@ fn of_wide(bits: u64, bias: f64) -> f64
     let mantissa = f64::from_bits(bits + 0x3FF0000000000000 - field * 0x10000000000000);
     let middle = f64::from_bits(0x3FF0000000000000 + piece * 0x200000000000);
     let exponent = (field as f64) - bias;
-    let j = piece as usize;
-    let r = EXCESSES[j] + (mantissa - middle) * RECIPROCALS[j];
-    let whole = exponent * LN2_HIGH + LOGARITHMS_HIGH[j];
+    let row = row_of(piece);
+    let r = row.excess + (mantissa - middle) * row.reciprocal;
+    let whole = exponent * LN2_HIGH + row.high;
     let sum = whole + r;
     let lost = (whole - sum) + r;
     let s = r * r;
@@ -70,5 +67,5 @@ fn of_wide(bits: u64, bias: f64) -> f64
     let second = -0.24999999992316846 + r * 0.19999999984739103;
     let third = -0.16667294993901074 + r * 0.14286470779586052;
     let tail = s * (first + s * (second + s * third));
-    sum + ((lost + (exponent * LN2_LOW + LOGARITHMS_LOW[j])) + tail)
+    sum + ((lost + (exponent * LN2_LOW + row.low)) + tail)
 }

@@ -41,7 +41,7 @@ returns-3 c = simp (c .before .before .if1 .left, c .before .if2 .left, c .if3 .
 
 exp-pair-requires : tie.Need-exp-pair-requires
 unfolding half
-exp-pair-requires c κs = in-range (c .before .before .before .before .args .x) (c .before .before .before .if1 .left) (c .before .before .if2 .left) (c .before .if3 .left)
+exp-pair-requires c κs = in-range (c .before .before .before .args .x) (c .before .before .if1 .left) (c .before .if2 .left) (c .if3 .left)
 
 squared-requires : tie.Need-squared-requires
 squared-requires c κs = search needs
@@ -49,12 +49,8 @@ squared-requires c κs = search needs
 returns-4 : tie.Need-returns-4
 unfolding expFar half
 returns-4 c =
-    let d = c .before .before in
-    simp (c .squared .ensures, c .before .exp-pair .ensures, d .before .before .before .if1 .left, d .before .before .if2 .left, d .before .if3 .left, d .if4 .taken)
-
-exp-pair-requires-2 : tie.Need-exp-pair-requires-2
-unfolding half
-exp-pair-requires-2 c κs = in-range (c .before .before .before .before .args .x) (c .before .before .before .if1 .left) (c .before .before .if2 .left) (c .before .if3 .left)
+    let d = c .before .before .before in
+    simp (c .squared .ensures, c .before .before .exp-pair .ensures, d .before .before .if1 .left, d .before .if2 .left, d .if3 .left, c .before .if4 .taken)
 
 squared-requires-2 : tie.Need-squared-requires-2
 squared-requires-2 c κs = search needs
@@ -62,8 +58,8 @@ squared-requires-2 c κs = search needs
 returns-5 : tie.Need-returns-5
 unfolding expFar half
 returns-5 c =
-    let d = c .before .before in
-    simp (c .squared2 .ensures, c .before .exp-pair2 .ensures, d .before .before .before .if1 .left, d .before .before .if2 .left, d .before .if3 .left, d .if4 .left)
+    let d = c .before .before .before in
+    simp (c .squared2 .ensures, c .before .before .exp-pair .ensures, d .before .before .if1 .left, d .before .if2 .left, d .if3 .left, c .before .if4 .left)
 
 pub exp-far-spec : {M : Type 1} → statement M
 exp-far-spec =
@@ -76,6 +72,5 @@ exp-far-spec =
     exp-pair-requires
     squared-requires
     returns-4
-    exp-pair-requires-2
     squared-requires-2
     returns-5)

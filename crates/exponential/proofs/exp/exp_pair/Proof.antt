@@ -16,19 +16,12 @@ sub-n : tie.Need-sub-n
 unfolding shifted
 sub-n c = let b = shifted-bits (c .args .x) (c .pre .0) (c .pre .1) in omega arith
 
-coarse-high-requires : tie.Need-coarse-high-requires
+coarse-requires : tie.Need-coarse-requires
 unfolding shifted
-coarse-high-requires c κs = let b = shifted-bits (c .args .x) (c .pre .0) (c .pre .1) in omega arith
+coarse-requires c κs = let b = shifted-bits (c .args .x) (c .pre .0) (c .pre .1) in omega arith
 
-coarse-low-requires : tie.Need-coarse-low-requires
-unfolding shifted
-coarse-low-requires c κs = let b = shifted-bits (c .before .args .x) (c .before .pre .0) (c .before .pre .1) in omega arith
-
-fine-high-requires : tie.Need-fine-high-requires
-fine-high-requires c κs = search needs
-
-fine-low-requires : tie.Need-fine-low-requires
-fine-low-requires c κs = search needs
+fine-requires : tie.Need-fine-requires
+fine-requires c κs = search needs
 
 grown-requires : tie.Need-grown-requires
 grown-requires c κs = search needs
@@ -38,26 +31,9 @@ multiplied-requires c κs = search needs
 
 returns : tie.Need-returns
 unfolding expPair steps rest shifted
-returns c =
-    simp (
-      c .multiplied .ensures,
-      c .before .grown .ensures,
-      c .before .before .fine-low .ensures,
-      c .before .before .before .fine-high .ensures,
-      c .before .before .before .before .coarse-low .ensures,
-      c .before .before .before .before .before .coarse-high .ensures,
-    )
+returns c = simp (c .multiplied .ensures, c .before .grown .ensures, c .before .before .fine .ensures, c .before .before .before .coarse .ensures)
 
 pub exp-pair-spec : {M : Type 1} → statement M
 exp-pair-spec =
     tie.close
-    (tie.spec
-    float-to-bits-n
-    sub-n
-    coarse-high-requires
-    coarse-low-requires
-    fine-high-requires
-    fine-low-requires
-    grown-requires
-    multiplied-requires
-    returns)
+    (tie.spec float-to-bits-n sub-n coarse-requires fine-requires grown-requires multiplied-requires returns)

@@ -1,11 +1,10 @@
 -- `logarithm::ln::of_wide` meets its contract: the patterns that it reads are no not-a-number's, and the code is the definition's text. Assumes nothing.
-use mathlib.Core.Path.{refl}
 use borrow.Author.Needs.{needs}
 use native.Mathlib.Nat.{le-trans}
 use lib.Dec.{le→leb, lit≤}
 use lib.Ieee.{inFloat}
 use Rattle.laws.proofs.Bits.{bits-no-nan}
-use Rattle.logarithm.specs.Tables.{reciprocals, excesses, logarithmsHigh, logarithmsLow}
+use Rattle.logarithm.specs.Rows.{rowOf}
 use Rattle.logarithm.specs.Ln.{tailOf, joined, lnWide}
 use Rattle.logarithm.proofs.Width.{mantissa-high, middle-high, field-high}
 use Rattle.logarithm.proofs.ln.of_wide.Statement.{statement}
@@ -39,33 +38,12 @@ int-to-float-exponent : tie.Need-int-to-float-exponent
 unfolding inFloat
 int-to-float-exponent c = le→leb _ _ (le-trans (field-high (c .before .args .bits) (c .before .pre)) (lit≤ tt))
 
-mul-r : tie.Need-mul-r
-mul-r c = search needs
-
-array-read-r : tie.Need-array-read-r
-array-read-r c = search needs
-
-mul-r-2 : tie.Need-mul-r-2
-mul-r-2 c = search needs
-
-array-read-r-2 : tie.Need-array-read-r-2
-array-read-r-2 c = search needs
-
-mul-whole : tie.Need-mul-whole
-mul-whole c = search needs
-
-array-read-whole : tie.Need-array-read-whole
-array-read-whole c = search needs
-
-mul-result : tie.Need-mul-result
-mul-result c = search needs
-
-array-read-result : tie.Need-array-read-result
-array-read-result c = search needs
+row-of-requires : tie.Need-row-of-requires
+row-of-requires c κs = search needs
 
 returns : tie.Need-returns
-unfolding lnWide joined tailOf reciprocals excesses logarithmsHigh logarithmsLow
-returns c = refl
+unfolding lnWide joined tailOf rowOf
+returns c = rw (c .before .before .before .before .row-of .ensures)
 
 pub of-wide-spec : {M : Type 1} → statement M
 of-wide-spec =
@@ -80,12 +58,5 @@ of-wide-spec =
     add-middle
     float-from-bits-middle
     int-to-float-exponent
-    mul-r
-    array-read-r
-    mul-r-2
-    array-read-r-2
-    mul-whole
-    array-read-whole
-    mul-result
-    array-read-result
+    row-of-requires
     returns)

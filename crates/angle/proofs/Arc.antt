@@ -8,7 +8,7 @@ use mathlib.Core.Bool.{Bool, true, false, _&&_, cond}
 use lib.Dec.{T, lit<, lit≤}
 use lib.Pow.{pow-mono}
 use lib.ListN.{getD}
-use lib.Ieee.{Float, nan, binary64, ofBits, add, sub, mul, div, le}
+use lib.Ieee.{Float, nan, binary64, ofBits, neg, add, sub, mul, div, le}
 use lib.Ieee.Fits.{and-l, and-r, add-fits, mul-fits}
 use lib.Ieee.Positive.{positive, den}
 use Rattle.laws.proofs.Order.{nought, le-trans-float, finite-between}
@@ -20,11 +20,11 @@ use Rattle.angle.proofs.Magnitude.{mag-below, at-least-above, at-least-
 use Rattle.angle.proofs.Sides.{from-zero}
 use Rattle.angle.proofs.Step.{long-finite, long-positive, short-above, short-finite, quotient-between, index-below, value-between}
 use Rattle.angle.specs.Angle.{zero, one, leading, stepOf, tangentOf, seriesOf, joinedOf, tabledArcOf, arcOf}
-use Rattle.angle.specs.Tables.{atanHigh, atanLow}
+use Rattle.angle.specs.Tables.{atanHigh, atanLow, tabledOf}
 use Rattle.angle.specs.Range.{lowest, highest, Ranged}
 use Rattle.angle.specs.declared.angle.Triangle.{Triangle}
 use Rattle.angle.specs.declared.angle.Tangent.{Tangent}
-use Rattle.angle.specs.declared.angle.Sum.{Sum}
+use Rattle.angle.specs.declared.tables.Sum.{Sum}
 
 -- ---- up to the tangent's value. h is a's leading digits
 abbrev pub aboveOf : Float → Float → Float → Float
@@ -198,11 +198,11 @@ lowTest : ℕ → Bool
 lowTest k = magTest binary64 1074 (getD atanLow k nan)
 
 high-entries : T (every highTest 65)
-unfolding highTest atanHigh ofBits magTest
+unfolding highTest atanHigh ofBits neg magTest
 high-entries = tt
 
 low-entries : T (every lowTest 65)
-unfolding lowTest atanLow ofBits magTest
+unfolding lowTest atanLow ofBits neg magTest
 low-entries = tt
 
 high-entry : (k : ℕ) → k < 65 → Mag binary64 1074 (getD atanHigh k nan)
@@ -235,13 +235,13 @@ pub record ArcSize (a : Sum) : Type 0 where
   pub high : Mag binary64 1078 (a .high)
   pub low : Mag binary64 1099 (a .low)
 
-joined-size : (base baseLow : Float) (g : Tangent) → Mag binary64 1074 base → Mag binary64 1074 baseLow → Mag binary64 1077 (g .value) → Mag binary64 1077 (g .high) → Mag binary64 1083 (g .low) → ArcSize (joinedOf base baseLow g)
+joined-size : (base : Sum) (g : Tangent) → Mag binary64 1074 (base .high) → Mag binary64 1074 (base .low) → Mag binary64 1077 (g .value) → Mag binary64 1077 (g .high) → Mag binary64 1083 (g .low) → ArcSize (joinedOf base g)
 unfolding joinedOf
-joined-size base baseLow g p q v h l =
-    let top : Mag binary64 1078 (add binary64 base (g .high)) = mag-add p h (lit< tt) (lit< tt) (lit≤ tt) in
-    let less : Mag binary64 1079 (sub binary64 base (add binary64 base (g .high))) = mag-sub p top (lit< tt) (lit< tt) (lit≤ tt) in
-    let carried : Mag binary64 1080 (add binary64 (sub binary64 base (add binary64 base (g .high))) (g .high)) = mag-add less h (lit< tt) (lit< tt) (lit≤ tt) in
-    let lows : Mag binary64 1084 (add binary64 baseLow (g .low)) = mag-add q l (lit< tt) (lit< tt) (lit≤ tt) in
+joined-size base g p q v h l =
+    let top : Mag binary64 1078 (add binary64 (base .high) (g .high)) = mag-add p h (lit< tt) (lit< tt) (lit≤ tt) in
+    let less : Mag binary64 1079 (sub binary64 (base .high) (add binary64 (base .high) (g .high))) = mag-sub p top (lit< tt) (lit< tt) (lit≤ tt) in
+    let carried : Mag binary64 1080 (add binary64 (sub binary64 (base .high) (add binary64 (base .high) (g .high))) (g .high)) = mag-add less h (lit< tt) (lit< tt) (lit≤ tt) in
+    let lows : Mag binary64 1084 (add binary64 (base .low) (g .low)) = mag-add q l (lit< tt) (lit< tt) (lit≤ tt) in
     record {
       high = top;
       low = mag-add {m = 1098} carried (mag-add lows (series-size (g .value) v) (lit< tt) (lit< tt) (lit≤ tt)) (lit< tt) (lit< tt) (lit≤ tt);
@@ -256,13 +256,13 @@ unfolding Under
 weaker {n} {m} {x} h p = record { fine = p .fine; under = le-trans (p .under) (mul-le-mul-right (den x) (pow-mono h)) }
 
 pub arc-size : (s : Triangle) → Ranged s → ArcSize (arcOf s)
-unfolding arcOf tabledArcOf
+unfolding arcOf tabledArcOf tabledOf
 arc-size s r =
     either (λ (a : Sum). ArcSize a) (le (s .short) (mul binary64 (s .long) (ofBits binary64 0x3E30000000000000)))
     (record { high = div binary64 (s .short) (s .long); low = zero })
     (tabledArcOf s)
     (record { high = weaker (lit≤ tt) (mag-below (div binary64 (s .short) (s .long)) one-size (quotient-between s r .0) (from-zero (div binary64 (s .short) (s .long)) (quotient-between s r .1)) (quotient-between s r .2)); low = weaker (lit≤ tt) zero-size })
-    (joined-size (getD atanHigh (stepOf s .index) nan) (getD atanLow (stepOf s .index) nan) (tangentOf s (stepOf s .value))
+    (joined-size (tabledOf (stepOf s .index)) (tangentOf s (stepOf s .value))
     (high-entry (stepOf s .index) (index-below s r)) (low-entry (stepOf s .index) (index-below s r))
     (tangent-value-size s r (stepOf s .value) (value-between s r)) (tangent-high-size s r (stepOf s .value) (value-between s r)) (tangent-low-size s r (stepOf s .value) (value-between s r)))
   where

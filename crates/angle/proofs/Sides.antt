@@ -10,11 +10,11 @@ use lib.Ieee.Fits.{and-i, and-l, and-r, mul-fits}
 use lib.Ieee.Scale.{finite}
 use lib.Ieee.Positive.{positive}
 use Rattle.laws.proofs.Value.{sign, bare}
-use Rattle.laws.proofs.Order.{nought, lt→le, le-trans-float, finite-between, mul-mono-pos}
+use Rattle.laws.proofs.Order.{nought, lt→le, le-ordered, le-trans-float, finite-between, mul-mono-pos}
 use Rattle.laws.proofs.Bits.{infBits, ofBits-bare, toBits-sign-bit, toBits-bare, toBits-at-most, bare-fits, bare-no-nan, bare-sign}
 use Rattle.laws.proofs.Interval.{Interval, iv, In, Expr, var, lit, product, eval, passes, Between, bounded, in-literals}
 use Rattle.angle.proofs.Ends.{bare-above, not-below, finite-of, positive-of, positive-above, at-most-largest, at-least-smallest}
-use Rattle.angle.specs.Angle.{zero, one, infinity, negative, magnitude, sidesOf, times, loweredOf, raisedOf, scaledOf}
+use Rattle.angle.specs.Angle.{zero, one, infinity, negative, magnitude, largerOf, smallerOf, sidesOf, times, loweredOf, raisedOf, scaledOf}
 use Rattle.angle.specs.Range.{lowest, highest, Ordered, Ranged}
 use Rattle.angle.specs.declared.angle.Triangle.{Triangle}
 
@@ -62,11 +62,14 @@ either P true x y p q = p refl
 either P false x y p q = q refl
 
 pub sides-ordered : (y x : Float) → T (fits binary64 y) → T (fits binary64 x) → T (le zero y) → T (le zero x) → Ordered (sidesOf y x)
-unfolding sidesOf
-sides-ordered y x F G p q =
-    either Ordered (lt x y) (record { long = y; short = x }) (record { long = x; short = y })
-    (λ h. record { held = F; start = q; order = lt→le x y (is-true (lt x y) h) })
-    (λ h. record { held = G; start = p; order = not-below x y (from-zero x q) (from-zero y p) h })
+unfolding sidesOf largerOf smallerOf
+sides-ordered y x F G p q = go (lt x y) (lt y x) refl refl
+  where
+    go : (a b : Bool) → lt x y ≡ a → lt y x ≡ b → Ordered (record { long = cond a y x; short = cond b y x })
+    go true true h k = record { held = F; start = p; order = le-ordered zero y p }
+    go true false h k = record { held = F; start = q; order = lt→le x y (is-true (lt x y) h) }
+    go false true h k = record { held = G; start = p; order = lt→le y x (is-true (lt y x) k) }
+    go false false h k = record { held = G; start = q; order = le-ordered zero x q }
 
 -- ---- scaled
 short-finite : (s : Triangle) → Ordered s → T (finite (s .long)) → T (finite (s .short))

@@ -4,11 +4,10 @@
 use Prim.Native.Nat.{ℕ, _-_, _%_}
 use mathlib.Core.Bool.{Bool, _||_, cond}
 use lib.Dec.{leb}
-use lib.ListN.{getD}
 use lib.Ieee.{Float, nan, binary64, ofBits, toBits, neg, add, sub, mul, div, lt, le, eq, isNan}
-use Rattle.angle.specs.Tables.{atanHigh, atanLow}
+use Rattle.angle.specs.Tables.{tabledOf}
 use Rattle.angle.specs.declared.angle.Triangle.{Triangle}
-use Rattle.angle.specs.declared.angle.Sum.{Sum}
+use Rattle.angle.specs.declared.tables.Sum.{Sum}
 use Rattle.angle.specs.declared.angle.Tangent.{Tangent}
 use Rattle.angle.specs.declared.angle.Step.{Step}
 
@@ -41,17 +40,17 @@ leading x = ofBits binary64 (toBits binary64 x - toBits binary64 x % 0x8000000)
 
 -- ---- the sides, brought into a range where no step over- or underflows
 
+unfoldable pub largerOf : Float → Float → Float
+largerOf y x = cond (lt x y) y x
+
+unfoldable pub smallerOf : Float → Float → Float
+smallerOf y x = cond (lt y x) y x
+
 unfoldable pub sidesOf : Float → Float → Triangle
-sidesOf y x =
-    cond (lt x y)
-    (record {
-      long = y;
-      short = x;
-    })
-    (record {
-      long = x;
-      short = y;
-    })
+sidesOf y x = record {
+  long = largerOf y x;
+  short = smallerOf y x;
+}
 
 unfoldable pub times : Float → Triangle → Triangle
 times c s = record {
@@ -132,19 +131,17 @@ seriesOf v =
     mul binary64 (mul binary64 v z) (add binary64 (ofBits binary64 0xBFD5555555555547) (mul binary64 z inner))
 
 -- the tabled angle at the step and the arc of the tangent that is left
-unfoldable pub joinedOf : Float → Float → Tangent → Sum
-joinedOf base baseLow rest =
-    let high = add binary64 base (rest .high) in
-    let carried = add binary64 (sub binary64 base high) (rest .high) in
+unfoldable pub joinedOf : Sum → Tangent → Sum
+joinedOf base rest =
+    let high = add binary64 (base .high) (rest .high) in
+    let carried = add binary64 (sub binary64 (base .high) high) (rest .high) in
     record {
       high = high;
-      low = add binary64 carried (add binary64 (add binary64 baseLow (rest .low)) (seriesOf (rest .value)));
+      low = add binary64 carried (add binary64 (add binary64 (base .low) (rest .low)) (seriesOf (rest .value)));
     }
 
 unfoldable pub tabledArcOf : Triangle → Sum
-tabledArcOf s =
-    let step = stepOf s in
-    joinedOf (getD atanHigh (step .index) nan) (getD atanLow (step .index) nan) (tangentOf s (step .value))
+tabledArcOf s = let step = stepOf s in joinedOf (tabledOf (step .index)) (tangentOf s (step .value))
 
 -- up to 2^-28 the arc is its tangent
 unfoldable pub arcOf : Triangle → Sum

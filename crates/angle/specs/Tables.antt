@@ -1,6 +1,9 @@
 -- atan(j / 64) for j = 0 .. 64: the nearest f64, and the f64 nearest to what that leaves. Written by tools/tables/angle.py.
 use mathlib.Core.List.{List, [], _∷_}
-use lib.Ieee.{Float, binary64, ofBits}
+use Prim.Native.Nat.{ℕ}
+use lib.ListN.{getD}
+use lib.Ieee.{Float, nan, binary64, ofBits, neg}
+use Rattle.angle.specs.declared.tables.Sum.{Sum}
 
 -- the nearest f64
 unfoldable pub atanHigh : List Float
@@ -76,17 +79,17 @@ atanHigh =
 unfoldable pub atanLow : List Float
 atanLow =
     ofBits binary64 0x0000000000000000 ∷
-    ofBits binary64 0xBC2220C39D4DFF50 ∷
-    ofBits binary64 0xBC35EC431444912C ∷
-    ofBits binary64 0xBC086EF8F794F105 ∷
-    ofBits binary64 0xBC3C934D86D23F1D ∷
+    neg (ofBits binary64 0x3C2220C39D4DFF50) ∷
+    neg (ofBits binary64 0x3C35EC431444912C) ∷
+    neg (ofBits binary64 0x3C086EF8F794F105) ∷
+    neg (ofBits binary64 0x3C3C934D86D23F1D) ∷
     ofBits binary64 0x3C5AC4CE285DF847 ∷
-    ofBits binary64 0xBC5CFB654C0C3D98 ∷
+    neg (ofBits binary64 0x3C5CFB654C0C3D98) ∷
     ofBits binary64 0x3C5F7B8F29A05987 ∷
-    ofBits binary64 0xBC4CD37686760C17 ∷
-    ofBits binary64 0xBC4B485914DACF8C ∷
+    neg (ofBits binary64 0x3C4CD37686760C17) ∷
+    neg (ofBits binary64 0x3C4B485914DACF8C) ∷
     ofBits binary64 0x3C661A3B0CE9281B ∷
-    ofBits binary64 0xBC5054AB2C010F3D ∷
+    neg (ofBits binary64 0x3C5054AB2C010F3D) ∷
     ofBits binary64 0x3C5347B0B4F881CA ∷
     ofBits binary64 0x3C4CF601E7B4348E ∷
     ofBits binary64 0x3C217B10D2E0E5AB ∷
@@ -94,50 +97,56 @@ atanLow =
     ofBits binary64 0x3C68AB6E3CF7AFBD ∷
     ofBits binary64 0x3C762E47390CB865 ∷
     ofBits binary64 0x3C630CA4748B1BF9 ∷
-    ofBits binary64 0xBC7077CDD36DFC81 ∷
-    ofBits binary64 0xBC6963A544B672D8 ∷
-    ofBits binary64 0xBC75D5E43C55B3BA ∷
-    ofBits binary64 0xBC62566480884082 ∷
-    ofBits binary64 0xBC7A725715711F00 ∷
-    ofBits binary64 0xBC7C63AAE6F6E918 ∷
+    neg (ofBits binary64 0x3C7077CDD36DFC81) ∷
+    neg (ofBits binary64 0x3C6963A544B672D8) ∷
+    neg (ofBits binary64 0x3C75D5E43C55B3BA) ∷
+    neg (ofBits binary64 0x3C62566480884082) ∷
+    neg (ofBits binary64 0x3C7A725715711F00) ∷
+    neg (ofBits binary64 0x3C7C63AAE6F6E918) ∷
     ofBits binary64 0x3C769C885C2B249A ∷
     ofBits binary64 0x3C7B6D0BA3748FA8 ∷
     ofBits binary64 0x3C79E6C988FD0A77 ∷
-    ofBits binary64 0xBC724DEC1B50B7FF ∷
+    neg (ofBits binary64 0x3C724DEC1B50B7FF) ∷
     ofBits binary64 0x3C7AE187B1CA5040 ∷
-    ofBits binary64 0xBC7CC1CE70934C34 ∷
-    ofBits binary64 0xBC7A2CFA4418F1AD ∷
+    neg (ofBits binary64 0x3C7CC1CE70934C34) ∷
+    neg (ofBits binary64 0x3C7A2CFA4418F1AD) ∷
     ofBits binary64 0x3C7A2B7F222F65E2 ∷
     ofBits binary64 0x3C70E53DC1BF3435 ∷
-    ofBits binary64 0xBC6A3992DC382A23 ∷
-    ofBits binary64 0xBC8B32C949C9D593 ∷
-    ofBits binary64 0xBC7D5B495F6349E6 ∷
+    neg (ofBits binary64 0x3C6A3992DC382A23) ∷
+    neg (ofBits binary64 0x3C8B32C949C9D593) ∷
+    neg (ofBits binary64 0x3C7D5B495F6349E6) ∷
     ofBits binary64 0x3C5974FA13B5404F ∷
-    ofBits binary64 0xBC52BDAEE1C0EE35 ∷
+    neg (ofBits binary64 0x3C52BDAEE1C0EE35) ∷
     ofBits binary64 0x3C8C621CEC00C301 ∷
-    ofBits binary64 0xBC5928DF287A668F ∷
+    neg (ofBits binary64 0x3C5928DF287A668F) ∷
     ofBits binary64 0x3C6C421C9F38224E ∷
-    ofBits binary64 0xBC709E73B0C6C087 ∷
+    neg (ofBits binary64 0x3C709E73B0C6C087) ∷
     ofBits binary64 0x3C8C5D5E9FF0CF8D ∷
     ofBits binary64 0x3C81021137C71102 ∷
-    ofBits binary64 0xBC82304331D8BF46 ∷
+    neg (ofBits binary64 0x3C82304331D8BF46) ∷
     ofBits binary64 0x3C7ECF8B492644F0 ∷
-    ofBits binary64 0xBC7F76D0163F79C8 ∷
+    neg (ofBits binary64 0x3C7F76D0163F79C8) ∷
     ofBits binary64 0x3C72419A87F2A458 ∷
     ofBits binary64 0x3C84A33DBEB3796C ∷
-    ofBits binary64 0xBC81BB74ABDA520C ∷
-    ofBits binary64 0xBC75E5C9D8C5A950 ∷
+    neg (ofBits binary64 0x3C81BB74ABDA520C) ∷
+    neg (ofBits binary64 0x3C75E5C9D8C5A950) ∷
     ofBits binary64 0x3C60028E4BC5E7CA ∷
-    ofBits binary64 0xBC62B785350EE8C1 ∷
-    ofBits binary64 0xBC76EA6FEBE8BBBA ∷
-    ofBits binary64 0xBC8A80386188C50E ∷
-    ofBits binary64 0xBC78C34D25AADEF6 ∷
+    neg (ofBits binary64 0x3C62B785350EE8C1) ∷
+    neg (ofBits binary64 0x3C76EA6FEBE8BBBA) ∷
+    neg (ofBits binary64 0x3C8A80386188C50E) ∷
+    neg (ofBits binary64 0x3C78C34D25AADEF6) ∷
     ofBits binary64 0x3C47B2A6165884A1 ∷
     ofBits binary64 0x3C8406A089803740 ∷
     ofBits binary64 0x3C8560821E2F3AA9 ∷
-    ofBits binary64 0xBC7BF76229D3B917 ∷
+    neg (ofBits binary64 0x3C7BF76229D3B917) ∷
     ofBits binary64 0x3C66B66E7FC8B8C3 ∷
-    ofBits binary64 0xBC855B9A5E177A1B ∷
-    ofBits binary64 0xBC7EC182AB042F61 ∷
+    neg (ofBits binary64 0x3C855B9A5E177A1B) ∷
+    neg (ofBits binary64 0x3C7EC182AB042F61) ∷
     ofBits binary64 0x3C81A62633145C07 ∷
     []
+
+unfoldable pub tabledOf : ℕ → Sum
+tabledOf j = record {
+  high = getD atanHigh j nan;
+  low = getD atanLow j nan;
+}

@@ -5,9 +5,10 @@ ghost use mathlib.Core.Path.{_≡_};
 ghost use mathlib.Core.Bool.{not, _&&_};
 ghost use lib.Dec.{T};
 ghost use lib.Ieee.{isNan, le};
-ghost use Rattle.angle.specs.Angle.{zero, one, negative, magnitude, leading, sidesOf, loweredOf, raisedOf, scaledOf, stepOf, tangentOf, seriesOf, joinedOf, tabledArcOf, arcOf, turnedOf, awayOf, upperOf, angleOf};
+ghost use Rattle.angle.specs.Angle.{zero, one, negative, magnitude, leading, largerOf, smallerOf, sidesOf, loweredOf, raisedOf, scaledOf, stepOf, tangentOf, seriesOf, joinedOf, tabledArcOf, arcOf, turnedOf, awayOf, upperOf, angleOf};
 ghost use Rattle.angle.specs.Range.{Ranged};
-use crate::tables;
+use crate::tables::Sum;
+use crate::tables::tabled;
 use machine::constants;
 
 // atan v = v + A3 v^3 + A5 v^5 + A7 v^7, fitted to |v| <= 1/128
@@ -23,12 +24,6 @@ const GRID: f64 = 70368744177664.0;
 pub struct Triangle {
     pub long: f64,
     pub short: f64,
-}
-
-// An angle as an unevaluated sum.
-pub struct Sum {
-    pub high: f64,
-    pub low: f64,
 }
 
 // A tangent, and the same as leading digits and the rest.
@@ -67,13 +62,26 @@ fn leading_digits(x: f64) -> f64
     f64::from_bits(u - u % 0x8000000)
 }
 
+fn larger(y: f64, x: f64) -> f64
+    ensures { λ r. ⌜ r ≡ largerOf y x ⌝ }
+{
+    if y > x { y } else { x }
+}
+
+fn smaller(y: f64, x: f64) -> f64
+    ensures { λ r. ⌜ r ≡ smallerOf y x ⌝ }
+{
+    if y < x { y } else { x }
+}
+
+// Two tests, for a maximum and a minimum of the machine each.
 fn sides(y: f64, x: f64) -> Triangle
     ensures { λ r. ⌜ r ≡ sidesOf y x ⌝ }
 {
-    if y > x {
-        return Triangle { long: y, short: x };
+    Triangle {
+        long: larger(y, x),
+        short: smaller(y, x),
     }
-    Triangle { long: x, short: y }
 }
 
 // Far up: an infinity is as good as any number beside a finite one, and two are alike.
@@ -177,14 +185,14 @@ fn series(v: f64) -> f64
 }
 
 // A tabled angle and the arc of the tangent left, added so that nothing is lost.
-fn joined(base: f64, base_low: f64, rest: Tangent) -> Sum
-    ensures { λ r. ⌜ r ≡ joinedOf base «base_low» rest ⌝ }
+fn joined(base: Sum, rest: Tangent) -> Sum
+    ensures { λ r. ⌜ r ≡ joinedOf base rest ⌝ }
 {
-    let high = base + rest.high;
-    let carried = (base - high) + rest.high;
+    let high = base.high + rest.high;
+    let carried = (base.high - high) + rest.high;
     Sum {
         high,
-        low: carried + ((base_low + rest.low) + series(rest.value)),
+        low: carried + ((base.low + rest.low) + series(rest.value)),
     }
 }
 
@@ -193,12 +201,7 @@ fn tabled_arc(s: Triangle) -> Sum
     ensures { λ r. ⌜ r ≡ tabledArcOf s ⌝ }
 {
     let step = nearest_step(s);
-    let j = step.index;
-    joined(
-        tables::ATAN_HIGH[j],
-        tables::ATAN_LOW[j],
-        tangent_left(s, step.value),
-    )
+    joined(tabled(step.index), tangent_left(s, step.value))
 }
 
 // The angle between the longer side and the point's radius. Below 2^-28 it is its tangent, to the last digit.

@@ -1,13 +1,12 @@
 -- sin, cos, sin(πx) and cos(πx) of a finite argument are finite. Each formula is bounded on an interval, by the same operations on the interval's ends:
 -- a magnitude of at most 2^20 gives |hi| ≤ 2^24 and |lo| ≤ 2^25, and on that box the kernels stay below 2^400. Assumes nothing.
 use mathlib.Core.Path.{_≡_, refl, sym, ap, _∙_, subst}
-use mathlib.Core.Bool.{Bool, true, false, not, _&&_, cond}
-use mathlib.Core.List.{List, [], _∷_}
-use Prim.Native.Nat.{ℕ, zero, suc, _+_, _-_, _*_, _/_, _%_, _^_, _≤_, _<_, zero-le}
-use native.Mathlib.Nat.{le-refl}
+use mathlib.Core.Bool.{Bool, true, false, _&&_, cond}
+use mathlib.Core.List.{[], _∷_}
+use Prim.Native.Nat.{ℕ, _+_, _*_, _/_, _%_, _^_, _≤_, _<_, zero-le}
 use native.Mathlib.Omega.{arith}
 use lib.Dec.{T, eqb, lit<, lit≤}
-use lib.Ieee.{Float, nan, inf, fin, binary64, round, rem, sub, le, lt, neg, fits, toBits, ofBits}
+use lib.Ieee.{Float, binary64, round, rem, le, lt, neg, fits, toBits, ofBits}
 use lib.Ieee.Fits.{sub-fits}
 use lib.Ieee.Exact.{HasValue}
 use lib.Ieee.Order.{le-of-values}
@@ -17,7 +16,7 @@ use lib.Ieee.Positive.{positive, num, den, den-pos}
 use Rattle.laws.proofs.Value.{sign, bare, own-fraction, finite-no-nan}
 use Rattle.laws.proofs.Order.{nought, le-trans-float, lt→le, not-lt→le, neg-anti, neg-finite}
 use Rattle.laws.proofs.Interval.{Interval, iv, In, in-finite, Expr, var, lit, sum, difference, product, share, eval, passes, Between, bounded, in-literals}
-use Rattle.laws.proofs.Bits.{infBits, cut, cut-le, cut-neg, bits-le, toBits-finite, toBits-neg, ofBits-neg, bare-fits, bare-finite, bare-sign, bare-no-nan, neg-bare, same-bare}
+use Rattle.laws.proofs.Bits.{infBits, cut, cut-le, cut-neg, bits-le, toBits-finite, toBits-neg, ofBits-neg, bare-fits, bare-finite, bare-sign, neg-bare}
 use Rattle.circular.specs.declared.reduce.Reduced.{Reduced}
 use Rattle.circular.specs.Operators.{_⊕_, _⊖_, _⊗_}
 use Rattle.circular.specs.Kernel.{sineKernel, cosineKernel, turned}

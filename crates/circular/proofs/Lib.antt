@@ -6,3 +6,4 @@ pub mod Rest
 pub mod Finite
 pub mod Whole
 pub mod Zeros
+pub mod Examples

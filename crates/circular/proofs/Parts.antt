@@ -6,13 +6,14 @@ use Prim.Native.Nat.{ℕ, zero, suc, _+_, _*_, _/_, _%_, _^_, _≤_, _<_}
 use native.Mathlib.Omega.{arith}
 use lib.Dec.{T, eqb, lit<}
 use lib.ListN.{getD}
-use lib.Ieee.{Float, nan, inf, fin, binary64, ofBits, toBits, fits, neg}
+use lib.Ieee.{Float, nan, inf, fin, binary64, ofBits, toBits, fits, neg, ne}
+use lib.Ieee.Compare.{differs-from-itself}
 use lib.Ieee.Scale.{finite}
 use Rattle.laws.proofs.Value.{sign, bare}
 use Rattle.laws.proofs.Bits.{infBits}
 use Rattle.circular.specs.declared.reduce.Reduced.{Reduced}
 use Rattle.circular.specs.Kernel.{sineKernel, cosineKernel, turned}
-use Rattle.circular.specs.Reduce.{withinTurns, quartersOf, reduceOf, withinTwo, halvesOf, reducePiOf}
+use Rattle.circular.specs.Reduce.{withinTurns, quartersOf, reduceOf, halvesOf, reducePiOf}
 use Rattle.circular.specs.Sin.{sinOf}
 use Rattle.circular.specs.Cos.{cosOf}
 use Rattle.circular.specs.SinPi.{fromZero, sinPiOf}
@@ -87,6 +88,19 @@ unfolding cosPiOf
 cosPi-none nan h = refl
 cosPi-none (inf s) h = refl
 cosPi-none (fin s m e) h = absurd h
+
+-- what differs from itself is not a number
+pub sin-nan : (x : Float) → ne x x ≡ true → sinOf x ≡ nan
+sin-nan x h = ap sinOf (differs-from-itself x (subst T (sym h) tt)) ∙ sin-none nan tt
+
+pub cos-nan : (x : Float) → ne x x ≡ true → cosOf x ≡ nan
+cos-nan x h = ap cosOf (differs-from-itself x (subst T (sym h) tt)) ∙ cos-none nan tt
+
+pub sinPi-nan : (x : Float) → ne x x ≡ true → sinPiOf x ≡ nan
+sinPi-nan x h = ap sinPiOf (differs-from-itself x (subst T (sym h) tt)) ∙ sinPi-none nan tt
+
+pub cosPi-nan : (x : Float) → ne x x ≡ true → cosPiOf x ≡ nan
+cosPi-nan x h = ap cosPiOf (differs-from-itself x (subst T (sym h) tt)) ∙ cosPi-none nan tt
 
 -- ---- by the bits of x
 module _ (x : Float) (b : ℕ) (F : T (fits binary64 x)) (B : b ≡ toBits binary64 x) where

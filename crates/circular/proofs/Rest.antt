@@ -1,8 +1,8 @@
 -- The rest x % y of a value without a minus sign, for y above zero, lies between 0 and y; here y is bounded by a whole number. Assumes nothing.
-use mathlib.Core.Path.{_≡_, refl, sym, ap, _∙_, subst}
-use mathlib.Core.Bool.{Bool, true, false, not, cond, true≢false}
-use Prim.Native.Nat.{ℕ, zero, suc, _+_, _*_, _%_, _≤_, _<_, zero-le}
-use native.Mathlib.Nat.{le-trans, le-of-eq, le-of-lt, mod-lt, mul-pos, mul-one, mul-assoc, mul-comm, mul-right-comm, mul-le-mul-right, zero-lt-suc}
+use mathlib.Core.Path.{_≡_, sym, ap, _∙_, subst}
+use mathlib.Core.Bool.{Bool, true, false, cond, true≢false}
+use Prim.Native.Nat.{ℕ, _*_, _%_, _≤_, _<_}
+use native.Mathlib.Nat.{le-trans, le-of-eq, le-of-lt, mod-lt, mul-pos, mul-one, mul-assoc, mul-comm, mul-le-mul-right, zero-lt-suc}
 use native.Mathlib.Omega.{arith}
 use lib.Dec.{T, ltb→lt}
 use borrow.Author.Tests.{ne-eqb}

@@ -1,23 +1,16 @@
 -- sin is odd, at the zeros too, and cos and cos(πx) are even: only the magnitude and the sign enter. Assumes nothing.
 use mathlib.Core.Path.{_≡_, refl, sym, ap, ap₂, _∙_}
-use mathlib.Core.Bool.{Bool, true, false, not, cond}
+use mathlib.Core.Bool.{true, false, cond}
 use Prim.Native.Nat.{ℕ, zero, suc, _+_, _/_, _%_, _<_}
 use native.Mathlib.Omega.{arith}
 use lib.Dec.{eqb}
 use lib.Ieee.{Float, nan, inf, fin, neg}
+use Rattle.laws.proofs.Sign.{neg-neg}
 use Rattle.circular.specs.Kernel.{sineKernel, cosineKernel, turned}
 use Rattle.circular.specs.Reduce.{reduceOf}
 use Rattle.circular.specs.Sin.{sinOf}
 use Rattle.circular.specs.Cos.{cosOf}
 use Rattle.circular.specs.CosPi.{cosPiOf}
-
-pub neg-neg : (x : Float) → neg (neg x) ≡ x
-unfolding neg
-neg-neg nan = refl
-neg-neg (inf true) = refl
-neg-neg (inf false) = refl
-neg-neg (fin true m e) = refl
-neg-neg (fin false m e) = refl
 
 -- two quarter turns more change the sign
 by : Float → Float → ℕ → ℕ → Float

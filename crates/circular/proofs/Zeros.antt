@@ -1,26 +1,26 @@
--- Exact values: sin(πx) is +0 at every whole x, cos(πx) is +0 at ±0.5, sin 0 is 0 and cos 0 is 1. Assumes nothing.
+-- Exact values: sin(πx) is +0 at every whole x, cos(πx) is +0 at ±0.5, sin 0 is 0, cos 0 and cos(π0) are 1. Assumes nothing.
 use mathlib.Core.Path.{_≡_, refl, sym, ap, ap₂, _∙_, subst}
 use mathlib.Core.Bool.{Bool, true, false, cond, true≢false}
-use Prim.Native.Nat.{ℕ, zero, suc, _+_, _-_, _*_, _/_, _%_, _^_, _≤_, _<_}
+use Prim.Native.Nat.{ℕ, _+_, _-_, _*_, _/_, _%_, _^_, _≤_, _<_}
 use native.Mathlib.Nat.{le-refl, div-add-mod', add-mul-mod-self-left, mod-eq-of-lt, mul-one, mul-le-mul-right}
 use native.Mathlib.Omega.{arith}
-use lib.Dec.{T, eqb, lit<, lit≤}
+use lib.Dec.{T, eqb, lit<}
 use lib.IntN.{ℤ, pos}
-use lib.Ieee.{Float, nan, inf, fin, binary64, up, down, round, rem, add, sub, mul, neg, le, lt, fits, toBits, ofBits}
+use lib.Ieee.{Float, nan, inf, fin, binary64, up, down, round, rem, add, sub, mul, neg, lt, fits, toBits, ofBits}
 use lib.Ieee.Bits.{ofBits-fits}
 use lib.Ieee.Exact.{HasValue}
 use lib.Ieee.Back.{round-whole}
 use lib.Ieee.Fits.{round-fits, add-fits, sub-fits, down-pos}
 use lib.Ieee.Scale.{finite, round-same}
-use lib.Ieee.Positive.{num, den, den-pos}
+use lib.Ieee.Positive.{num, den}
 use Rattle.laws.proofs.Value.{sign, bare, le-values}
 use Rattle.laws.proofs.Order.{nought, not-lt→le}
-use Rattle.laws.proofs.Bits.{toBits-back, whole-pattern, bare-fits, bare-finite}
+use Rattle.laws.proofs.Bits.{toBits-back, whole-pattern, bare-fits}
 use Rattle.laws.proofs.Power.{unique}
 use Rattle.circular.specs.declared.reduce.Reduced.{Reduced}
 use Rattle.circular.specs.Operators.{_⊕_, _⊖_, _⊗_}
 use Rattle.circular.specs.Kernel.{sineKernel, cosineKernel, turned}
-use Rattle.circular.specs.Reduce.{withinTurns, quartersOf, reduceOf, leading, withinTwo, halvesOf, reducePiOf}
+use Rattle.circular.specs.Reduce.{reduceOf, leading, withinTwo, halvesOf, reducePiOf}
 use Rattle.circular.specs.Sin.{sinOf}
 use Rattle.circular.specs.Cos.{cosOf}
 use Rattle.circular.specs.SinPi.{fromZero, sinPiOf}
@@ -41,6 +41,10 @@ sin-minus-zero = refl
 pub cos-zero : cosOf (ofBits binary64 0) ≡ ofBits binary64 0x3FF0000000000000
 unfolding cosOf reduceOf turned cosineKernel ofBits add sub mul lt
 cos-zero = refl
+
+pub cosPi-zero : cosPiOf (ofBits binary64 0) ≡ ofBits binary64 0x3FF0000000000000
+unfolding cosPiOf reducePiOf halvesOf withinTwo leading turned fromZero cosineKernel ofBits toBits add sub mul lt
+cosPi-zero = refl
 
 pub cosPi-half : cosPiOf (ofBits binary64 0x3FE0000000000000) ≡ ofBits binary64 0
 unfolding cosPiOf reducePiOf halvesOf withinTwo leading turned fromZero sineKernel ofBits toBits add sub mul lt

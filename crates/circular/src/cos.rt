@@ -1,5 +1,5 @@
 // cos x, by the magnitude: reduced to hi + lo and quarter turns, then one kernel (own reduction, fdlibm's kernels).
-// Promised: the bits of cosOf for every x. Measured error: 0.779 ulp at most up to 32,769 in magnitude.
+// Promised: the bits of cosOf for every x. Measured error: below 0.78 ulp up to 32,769 in magnitude.
 ghost use mathlib.Core.Path.{_≡_};
 ghost use Rattle.circular.specs.Cos.{cosOf};
 use crate::kernel::sine_at;
@@ -11,6 +11,9 @@ use machine::constants::not_a_number;
 pub fn cos(x: f64) -> f64
     ensures { λ r. ⌜ r ≡ cosOf x ⌝ }
 {
+    if x != x {
+        return not_a_number();
+    }
     let size = pattern(x) % 0x8000000000000000;
     if size >= 0x7FF0000000000000 {
         return not_a_number();

@@ -18,6 +18,12 @@ pub struct SinCos {
 pub fn sin_cos(x: f64) -> SinCos
     ensures { λ r. ⌜ (r .sin ≡ sinOf x) × (r .cos ≡ cosOf x) ⌝ }
 {
+    if x != x {
+        return SinCos {
+            sin: not_a_number(),
+            cos: not_a_number(),
+        };
+    }
     let bits = pattern(x);
     let size = bits % 0x8000000000000000;
     if size >= 0x7FF0000000000000 {
@@ -33,8 +39,9 @@ pub fn sin_cos(x: f64) -> SinCos
     let turned = [s, c, -s, -c];
     let quarter = angle.quarter as usize;
     let half = (bits / 0x8000000000000000 * 2) as usize;
-    SinCos {
-        sin: turned[(quarter + half) % 4],
-        cos: turned[(quarter + 1) % 4],
-    }
+    let here = (quarter + half) % 4;
+    let next = (quarter + 1) % 4;
+    let sin = turned[here];
+    let cos = turned[next];
+    SinCos { sin, cos }
 }

@@ -1,6 +1,7 @@
 -- The theorems, by topic.
 pub mod Bits
 pub mod Bound
+pub mod First
 pub mod Grid
 pub mod Interval
 pub mod Iterate
@@ -14,3 +15,4 @@ pub mod Seam
 pub mod Sign
 pub mod Sweep
 pub mod Value
+pub mod Whole

@@ -1,15 +1,18 @@
--- `angle::angle::sides` meets its contract: by the one test. Assumes nothing.
+-- `angle::angle::sides` meets its contract: what the callees ensure. Assumes nothing.
 use Rattle.angle.specs.Angle.{sidesOf}
+use borrow.Author.Needs.{needs}
 use Rattle.angle.proofs.angle.sides.Statement.{statement}
 use Rattle.angle.proofs.angle.sides.Tie as tie
 
+larger-requires : tie.Need-larger-requires
+larger-requires c κs = search needs
+
+smaller-requires : tie.Need-smaller-requires
+smaller-requires c κs = search needs
+
 returns : tie.Need-returns
 unfolding sidesOf
-returns c = simp (c .if1 .taken)
-
-returns-2 : tie.Need-returns-2
-unfolding sidesOf
-returns-2 c = simp (c .if1 .left)
+returns c = simp (c .smaller .ensures, c .before .larger .ensures)
 
 pub sides-spec : {M : Type 1} → statement M
-sides-spec = tie.close (tie.spec returns returns-2)
+sides-spec = tie.close (tie.spec larger-requires smaller-requires returns)

@@ -1,20 +1,17 @@
 -- `circular::sin_cos::sin_cos` meets its contract: the pair is sin and cos, each by the bits of x. Assumes nothing.
 use mathlib.Core.Path.{_≡_, sym, _∙_, subst, ap}
 use mathlib.Core.List.{[], _∷_}
-use Prim.Native.Nat.{ℕ, _+_, _*_, _/_, _%_, _<_, _^_}
+use Prim.Native.Nat.{ℕ, _+_, _*_, _/_, _%_, _<_}
 use native.Mathlib.Omega.{arith}
 use borrow.Author.Needs.{needs}
 use lib.Dec.{T}
 use lib.ListN.{getD}
 use lib.Ieee.{Float, nan, neg}
 use Rattle.circular.specs.declared.reduce.Reduced.{Reduced}
-use Rattle.circular.specs.Kernel.{sineKernel, cosineKernel, turned}
-use Rattle.circular.proofs.Parts.{quarter-lt, at, sin-large, sin-at, cos-large, cos-at, turns}
+use Rattle.circular.specs.Kernel.{sineKernel, turned}
+use Rattle.circular.proofs.Parts.{quarter-lt, at, sin-nan, sin-large, sin-at, cos-nan, cos-large, cos-at, turns}
 use Rattle.circular.proofs.sin_cos.sin_cos.Statement.{statement}
 use Rattle.circular.proofs.sin_cos.sin_cos.Tie as tie
-
-pattern-requires : tie.Need-pattern-requires
-pattern-requires c κs = search needs
 
 not-a-number-requires : tie.Need-not-a-number-requires
 not-a-number-requires c κs = search needs
@@ -24,11 +21,26 @@ not-a-number-requires-2 c κs = search needs
 
 returns : tie.Need-returns
 returns c =
-    let s = c .before .before .before .before in
+    let x = c .before .before .before .args .x in
+    let t = c .before .before .if1 .taken in
+    (c .before .not-a-number .ensures ∙ sym (sin-nan x t), c .not-a-number2 .ensures ∙ sym (cos-nan x t))
+
+pattern-requires : tie.Need-pattern-requires
+pattern-requires c κs = search needs
+
+not-a-number-requires-3 : tie.Need-not-a-number-requires-3
+not-a-number-requires-3 c κs = search needs
+
+not-a-number-requires-4 : tie.Need-not-a-number-requires-4
+not-a-number-requires-4 c κs = search needs
+
+returns-2 : tie.Need-returns-2
+returns-2 c =
+    let s = c .before .before .before .before .before in
     let p = c .before .before .before .pattern in
     let F = subst T (sym (s .good .0 .1)) tt in (
-      c .before .not-a-number .ensures ∙ sym (sin-large (s .args .x) (p .result) F (p .ensures) (c .before .before .if1 .taken)),
-      c .not-a-number2 .ensures ∙ sym (cos-large (s .args .x) (p .result) F (p .ensures) (c .before .before .if1 .taken)),
+      c .before .not-a-number3 .ensures ∙ sym (sin-large (s .args .x) (p .result) F (p .ensures) (c .before .before .if2 .taken)),
+      c .not-a-number4 .ensures ∙ sym (cos-large (s .args .x) (p .result) F (p .ensures) (c .before .before .if2 .taken)),
     )
 
 of-pattern-requires : tie.Need-of-pattern-requires
@@ -49,23 +61,23 @@ mul-half c = search needs
 quarter-of : (c : tie.After-cosine) → c .before .before .reduce .result .quarter < 4
 quarter-of c = subst (λ (r : Reduced). r .quarter < 4) (sym (c .before .before .reduce .ensures)) (quarter-lt (c .before .before .before .of-pattern .result))
 
-add-t17 : tie.Need-add-t17
-add-t17 c = omega (arith, quarter-of c)
+add-here : tie.Need-add-here
+add-here c = omega (arith, quarter-of c)
 
-mul-t19 : tie.Need-mul-t19
-mul-t19 c = search needs
+add-next : tie.Need-add-next
+add-next c = omega (arith, quarter-of c)
 
-array-read-t13 : tie.Need-array-read-t13
-array-read-t13 c = search needs
+mul-sin : tie.Need-mul-sin
+mul-sin c = search needs
 
-add-t22 : tie.Need-add-t22
-add-t22 c = omega (arith, quarter-of c)
+array-read-sin : tie.Need-array-read-sin
+array-read-sin c = search needs
 
-mul-t24 : tie.Need-mul-t24
-mul-t24 c = search needs
+mul-cos : tie.Need-mul-cos
+mul-cos c = search needs
 
-array-read-t14 : tie.Need-array-read-t14
-array-read-t14 c = search needs
+array-read-cos : tie.Need-array-read-cos
+array-read-cos c = search needs
 
 -- the kernels' results stand where the row's entry is taken
 row : (c : tie.After-cosine) (n : ℕ)
@@ -79,11 +91,11 @@ row c n =
     ∙ ap (λ (s : Float). turned neg (r .quarter + n) s (c .cosine .result)) (c .before .sine .ensures)
     ∙ ap (λ (d : Float). turned neg (r .quarter + n) (sineKernel (r .hi) (r .lo)) d) (c .cosine .ensures)
 
-returns-2 : tie.Need-returns-2
-returns-2 c =
-    let s = c .before .before .before .before .before .before in
+returns-3 : tie.Need-returns-3
+returns-3 c =
+    let s = c .before .before .before .before .before .before .before in
     let p = c .before .before .before .before .before .pattern in
-    let h = c .before .before .before .before .if1 .left in
+    let h = c .before .before .before .before .if2 .left in
     let a = c .before .before .before .of-pattern in
     let r = c .before .before .reduce in
     let F = subst T (sym (s .good .0 .1)) tt in (
@@ -95,19 +107,22 @@ pub sin-cos-spec : {M : Type 1} → statement M
 sin-cos-spec =
     tie.close
     (tie.spec
-    pattern-requires
     not-a-number-requires
     not-a-number-requires-2
     returns
+    pattern-requires
+    not-a-number-requires-3
+    not-a-number-requires-4
+    returns-2
     of-pattern-requires
     reduce-requires
     sine-requires
     cosine-requires
     mul-half
-    add-t17
-    mul-t19
-    array-read-t13
-    add-t22
-    mul-t24
-    array-read-t14
-    returns-2)
+    add-here
+    add-next
+    mul-sin
+    array-read-sin
+    mul-cos
+    array-read-cos
+    returns-3)

@@ -1,0 +1,3 @@
+-- The theorems, by topic.
+pub mod DifferenceBound
+pub mod TemmeBound

@@ -1,8 +1,9 @@
 #!/usr/bin/env python3
-"""angle.py: write the tables of crate angle, src/tables.rt and specs/Tables.antt, from one computation at 300 bits.
+"""angle.py: write the tables of crate angle, src/tables.rt and specs/Tables.antt, from one computation at 300 bits, and the proof that
+they agree. `rt fmt` lays the files out.
 
-angle.py          write both files
-angle.py --check  compare both files with what would be written, confirm the constants that the sources cite, and bound the
+angle.py          write the files
+angle.py --check  compare the files with what would be written, confirm the constants that the sources cite, and bound the
                   polynomial's error; status 1 where something differs
 """
 import re
@@ -44,28 +45,87 @@ HIGH = [pair[0] for pair in PAIRS]
 LOW = [pair[1] for pair in PAIRS]
 
 
-def rattle(name, values):
-    body = "\n".join(f"    {x!r}," for x in values)
-    return f"pub const {name}: [f64; {len(values)}] = [\n{body}\n];\n"
+def arm(key, j):
+    return f"        {key} => Sum {{\n            high: {HIGH[j]!r},\n            low: {LOW[j]!r},\n        }},\n"
+
+
+def antt_float(x):
+    """A negative literal of the source is the negation of a literal."""
+    text = f"ofBits binary64 0x{bits(abs(x)):016X}"
+    return f"neg ({text})" if bits(x) >> 63 else text
 
 
 def antt(name, comment, values):
-    body = "\n".join(f"    ofBits binary64 0x{bits(x):016X} ∷" for x in values)
-    return f"-- {comment}\nunfoldable pub {name} : List Float\n{name} =\n{body}\n    []\n"
+    body = "".join(f"    {antt_float(x)} ∷\n" for x in values)
+    return f"-- {comment}\nunfoldable pub {name} : List Float\n{name} =\n{body}    []\n"
 
 
-SOURCE = f"""// atan(j / {STEPS}) for j = 0 .. {STEPS}: the nearest f64, and the f64 nearest to what that leaves. Written by tools/tables/angle.py.
-{rattle("ATAN_HIGH", HIGH)}
-{rattle("ATAN_LOW", LOW)}"""
+def answer(name, body):
+    return f"{name} : tie.Need-{name}\nunfolding tabledOf atanHigh atanLow\n{name} c = {body}\n"
 
-SPEC = f"""-- atan(j / {STEPS}) for j = 0 .. {STEPS}: the nearest f64, and the f64 nearest to what that leaves. Written by tools/tables/angle.py.
+
+ABOUT = f"atan(j / {STEPS}) for j = 0 .. {STEPS}: the nearest f64, and the f64 nearest to what that leaves. Written by tools/tables/angle.py."
+
+SOURCE = f"""// {ABOUT}
+// A match and not an array: the compiler makes one load of it, where an indexed constant is copied to the stack at each call.
+ghost use mathlib.Core.Path.{{_≡_}};
+ghost use Prim.Native.Nat.{{_<_}};
+ghost use Rattle.angle.specs.Tables.{{tabledOf}};
+
+// An angle as an unevaluated sum.
+pub struct Sum {{
+    pub high: f64,
+    pub low: f64,
+}}
+
+pub fn tabled(j: usize) -> Sum
+    requires {{ ⌜ j < {STEPS + 1} ⌝ }}
+    ensures {{ λ r. ⌜ r ≡ tabledOf j ⌝ }}
+{{
+    match j {{
+{"".join(arm(j, j) for j in range(STEPS))}{arm("_", STEPS)}    }}
+}}
+"""
+
+SPEC = f"""-- {ABOUT}
 use mathlib.Core.List.{{List, [], _∷_}}
-use lib.Ieee.{{Float, binary64, ofBits}}
+use Prim.Native.Nat.{{ℕ}}
+use lib.ListN.{{getD}}
+use lib.Ieee.{{Float, nan, binary64, ofBits, neg}}
+use Rattle.angle.specs.declared.tables.Sum.{{Sum}}
 
 {antt("atanHigh", "the nearest f64", HIGH)}
-{antt("atanLow", "what is left", LOW)}"""
+{antt("atanLow", "what is left", LOW)}
+unfoldable pub tabledOf : ℕ → Sum
+tabledOf j = record {{
+  high = getD atanHigh j nan;
+  low = getD atanLow j nan;
+}}
+"""
 
-FILES = {CRATE / "src" / "tables.rt": SOURCE, CRATE / "specs" / "Tables.antt": SPEC}
+NAMES = ["returns" if j == 0 else f"returns-{j + 1}" for j in range(STEPS + 1)]
+ANSWERS = [answer(NAMES[j], f"rw (c .match .keys{j + 1})") for j in range(STEPS)]
+ANSWERS.append(answer(NAMES[STEPS], f"rw (last {STEPS} (c .before .args .j) (c .match .rest) (c .before .pre))"))
+
+PROOF = f"""-- `angle::tables::tabled` meets its contract: an arm for each entry. Written by tools/tables/angle.py. Assumes nothing.
+use Rattle.angle.proofs.Arms.{{last}}
+use Rattle.angle.specs.Tables.{{tabledOf, atanHigh, atanLow}}
+use Rattle.angle.proofs.tables.tabled.Statement.{{statement}}
+use Rattle.angle.proofs.tables.tabled.Tie as tie
+
+{chr(10).join(ANSWERS)}
+pub tabled-spec : {{M : Type 1}} → statement M
+tabled-spec =
+    tie.close
+    (tie.spec
+{chr(10).join("    " + name for name in NAMES)})
+"""
+
+FILES = {
+    CRATE / "src" / "tables.rt": SOURCE,
+    CRATE / "specs" / "Tables.antt": SPEC,
+    CRATE / "proofs" / "tables" / "tabled" / "Proof.antt": PROOF,
+}
 
 
 def polynomial_error():
@@ -106,4 +166,5 @@ if __name__ == "__main__":
     if sys.argv[1:] == ["--check"]:
         sys.exit(check())
     for path, text in FILES.items():
+        path.parent.mkdir(parents=True, exist_ok=True)
         path.write_text(text)

@@ -2,9 +2,12 @@
 """The tables of crate exponential, by mpmath at 400 bits: 177 powers e^(8(i-88)) and 256 powers e^(j/32 - 4 - 1/64), each as its
 leading 26 digits, cut off, and the nearest f64 of the rest, which is therefore at least 0.
 
-    exponential.py           write src/tables.rt and specs/Tables.antt, from one list, so that they cannot drift
-    exponential.py --check   compare both files with the list, and measure every polynomial of the crate against mpmath
+    exponential.py           write src/tables.rt, specs/Tables.antt and the proofs that they agree, from one list
+    exponential.py --check   compare these files with the list, and measure every polynomial of the crate against mpmath
+
+A table is a match, which the compiler turns into one constant in memory. An indexed array would be stored anew in each call.
 """
+import math
 import os
 import re
 import struct
@@ -26,7 +29,9 @@ def of_bits(b):
 
 
 def nearest(v):
-    """The f64 nearest to v, a normal number or 0: mpmath rounds to 53 digits, ties to even."""
+    """The f64 nearest to v, ties to even."""
+    if v != 0 and mpmath.frexp(v)[1] < -1021:
+        return math.ldexp(int(mpmath.nint(mpmath.ldexp(v, 1074))), -1074)
     with mpmath.workprec(53):
         return float(+v)
 
@@ -38,42 +43,69 @@ def split(v):
     return nearest(high), nearest(v - high)
 
 
-def columns():
-    coarse = [split(mpmath.exp(8 * (i - 88))) for i in range(177)]
-    fine = [split(mpmath.exp(mpmath.mpf(j) / 32 - 4 - mpmath.mpf(1) / 64)) for j in range(256)]
-    return [
-        ('COARSE_HIGH', 'coarseHigh', 'e^(8(i-88)), the leading 26 digits', [h for h, _ in coarse]),
-        ('COARSE_LOW', 'coarseLow', 'e^(8(i-88)), the rest', [l for _, l in coarse]),
-        ('FINE_HIGH', 'fineHigh', 'e^(j/32 - 4 - 1/64), the leading 26 digits', [h for h, _ in fine]),
-        ('FINE_LOW', 'fineLow', 'e^(j/32 - 4 - 1/64), the rest', [l for _, l in fine]),
-    ]
+TABLES = [
+    ('coarse', 'e^(8(i-88))', 'i', [split(mpmath.exp(8 * (i - 88))) for i in range(177)]),
+    ('fine', 'e^(j/32 - 4 - 1/64)', 'j', [split(mpmath.exp(mpmath.mpf(j) / 32 - 4 - mpmath.mpf(1) / 64)) for j in range(256)]),
+]
 
 
-def rattle(tables):
+def rattle():
     out = ['// The powers of e that exp is put together from, each as its leading 26 digits and the rest, which is at least 0.',
-           '// Written by tools/tables/exponential.py, with specs/Tables.antt.']
-    for name, _, what, values in tables:
-        out.append('')
-        out.append('// ' + what)
-        out.append('pub const %s: [f64; %d] = [' % (name, len(values)))
-        out += ['    %r,' % v for v in values]
-        out.append('];')
+           '// A table is a match, which the compiler turns into one constant in memory; an array would be stored anew in each call.',
+           '// Written by tools/tables/exponential.py, with specs/Tables.antt and the proofs that they agree.',
+           'ghost use mathlib.Core.Path.{_≡_};',
+           'ghost use Prim.Native.Nat.{_<_};',
+           'ghost use Rattle.exponential.specs.Tables.{%s};' % ', '.join(name + 'Power' for name, _, _, _ in TABLES),
+           'use crate::exp::Pair;']
+    for name, what, index, entries in TABLES:
+        out += ['', '// ' + what, 'pub fn %s(%s: usize) -> Pair' % (name, index), '    requires { ⌜ %s < %d ⌝ }' % (index, len(entries)),
+                '    ensures { λ r. ⌜ r ≡ %sPower %s ⌝ }' % (name, index), '{', '    match %s {' % index]
+        for k, (high, low) in enumerate(entries):
+            key = '_' if k == len(entries) - 1 else '%d' % k
+            out += ['        %s => Pair {' % key, '            hi: %r,' % high, '            lo: %r,' % low, '        },']
+        out += ['    }', '}']
     return '\n'.join(out) + '\n'
 
 
-def antt(tables):
+def definitions():
     out = ['-- The powers of e that exp is put together from, each as its leading 26 digits and the rest, which is at least 0. Definitions only.',
            '-- Written by tools/tables/exponential.py, with src/tables.rt.',
            'use mathlib.Core.List.{List, [], _∷_}',
-           'use lib.Ieee.{Float, binary64, ofBits}']
-    for _, name, what, values in tables:
-        out.append('')
-        out.append('-- ' + what)
-        out.append('unfoldable pub %s : List Float' % name)
-        out.append('%s =' % name)
-        out += ['    ofBits binary64 0x%016X ∷' % bits(v) for v in values]
-        out.append('    []')
+           'use Prim.Native.Nat.{ℕ}',
+           'use lib.ListN.{getD}',
+           'use lib.Ieee.{Float, nan, binary64, ofBits}',
+           'use Rattle.exponential.specs.declared.exp.Pair.{Pair}']
+    for name, what, index, entries in TABLES:
+        for part, column in (('High', [h for h, _ in entries]), ('Low', [l for _, l in entries])):
+            out += ['', '-- %s, the %s' % (what, 'leading 26 digits' if part == 'High' else 'rest'), 'unfoldable pub %s%s : List Float' % (name, part), '%s%s =' % (name, part)]
+            out += ['    ofBits binary64 0x%016X ∷' % bits(v) for v in column]
+            out += ['    []']
+        out += ['', '-- both parts', 'unfoldable pub %sPower : ℕ → Pair' % name, 'unfolding %sHigh %sLow' % (name, name),
+                '%sPower %s = record { hi = getD %sHigh %s nan; lo = getD %sLow %s nan }' % (name, index, name, index, name, index)]
     return '\n'.join(out) + '\n'
+
+
+def proof(name, index, entries):
+    count = len(entries)
+    needs = ['returns'] + ['returns-%d' % k for k in range(2, count + 1)]
+    out = ['-- `exponential::tables::%s` meets its contract, at each of its %d indices. Assumes nothing.' % (name, count),
+           '-- Written by tools/tables/exponential.py.',
+           'use Rattle.exponential.specs.Tables.{%sHigh, %sLow, %sPower}' % (name, name, name),
+           'use Rattle.exponential.proofs.Arms.{last}',
+           'use Rattle.exponential.proofs.tables.%s.Statement.{statement}' % name,
+           'use Rattle.exponential.proofs.tables.%s.Tie as tie' % name]
+    for k, need in enumerate(needs, 1):
+        fact = 'c .match .keys%d' % k if k < count else 'last %d (c .before .args .%s) (c .before .pre) (c .match .rest)' % (count - 1, index)
+        out += ['', '%s : tie.Need-%s' % (need, need), 'unfolding %sHigh %sLow %sPower' % (name, name, name), '%s c = rw (%s)' % (need, fact)]
+    out += ['', 'pub %s-spec : {M : Type 1} → statement M' % name, '%s-spec =' % name, '    tie.close', '    (tie.spec']
+    out += ['    ' + need for need in needs[:-1]] + ['    %s)' % needs[-1]]
+    return '\n'.join(out) + '\n'
+
+
+def files():
+    """Each written file: its path in the crate, and its text."""
+    return [('src/tables.rt', rattle()), ('specs/Tables.antt', definitions())] + [
+        ('proofs/tables/%s/Proof.antt' % name, proof(name, index, entries)) for name, _, index, entries in TABLES]
 
 
 def coefficients(file, name):
@@ -102,14 +134,19 @@ def horner(c, v):
     return r
 
 
-def check(tables):
+def bare(text):
+    """A text without what the formatter may change."""
+    return re.sub(r'\s+', '', text).replace(',}', '}')
+
+
+def check():
     good = True
-    for path, text in ((os.path.join(CRATE, 'src', 'tables.rt'), rattle(tables)), (os.path.join(CRATE, 'specs', 'Tables.antt'), antt(tables))):
-        same = re.sub(r'\s+', '', open(path, encoding='utf-8').read()) == re.sub(r'\s+', '', text)
-        print(os.path.basename(path), 'agrees' if same else 'DIFFERS')
+    for path, text in files():
+        same = bare(open(os.path.join(CRATE, path), encoding='utf-8').read()) == bare(text)
+        print(path, 'agrees' if same else 'DIFFERS')
         good = good and same
-    for name, _, _, values in tables:
-        good = good and all(v >= 0 and (not name.endswith('HIGH') or bits(v) % 2 ** (53 - DIGITS) == 0) for v in values)
+    for _, _, _, entries in TABLES:
+        good = good and all(low >= 0 and bits(high) % 2 ** (53 - DIGITS) == 0 for high, low in entries)
     g = coefficients('Exp.antt', 'growth')
     s = coefficients('Sinh.antt', 'sinhSmall')
     c = coefficients('Cosh.antt', 'coshSmall')
@@ -121,10 +158,10 @@ def check(tables):
 
 
 if __name__ == '__main__':
-    lists = columns()
     if sys.argv[1:] == ['--check']:
-        sys.exit(0 if check(lists) else 1)
+        sys.exit(0 if check() else 1)
     if sys.argv[1:]:
         sys.exit(__doc__)
-    open(os.path.join(CRATE, 'src', 'tables.rt'), 'w', encoding='utf-8').write(rattle(lists))
-    open(os.path.join(CRATE, 'specs', 'Tables.antt'), 'w', encoding='utf-8').write(antt(lists))
+    for path, text in files():
+        os.makedirs(os.path.dirname(os.path.join(CRATE, path)), exist_ok=True)
+        open(os.path.join(CRATE, path), 'w', encoding='utf-8').write(text)

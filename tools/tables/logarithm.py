@@ -3,8 +3,8 @@
 
 Row j of 128 stands for the middle 1 + j/128 of a mantissa's piece: the reciprocal c, the i/256 nearest to 1/(1 + j/128); the excess
 (1 + j/128)*c - 1, which is exact; and -ln c as high + low, high being the nearest multiple of 2^-42 and low the f64 nearest to the rest.
-Writes src/tables.rt and specs/Tables.antt, so that the two cannot differ; with --check it writes nothing, compares the files, and tests
-every property named here, the two parts of ln 2, and the polynomial: within 2^-64 of ln(1 + r) - r at 2,001 points of |r| <= 3/512."""
+Writes src/tables.rt, specs/Tables.antt and the proof that they agree; with --check it writes nothing, compares the files, and tests every
+property named here, the two parts of ln 2, and the polynomial: within 2^-64 of ln(1 + r) - r at 2,001 points of |r| <= 3/512."""
 import os, struct, sys
 from mpmath import mp, mpf, log, log1p, nint, floor
 
@@ -43,38 +43,52 @@ def rows():
     return reciprocals, excesses, highs, lows
 
 
-NAMES = [
-    ('RECIPROCALS', 'reciprocals', 'c, the i/256 nearest to 1 / (1 + j/128)'),
-    ('EXCESSES', 'excesses', '(1 + j/128)*c - 1, exact'),
-    ('LOGARITHMS_HIGH', 'logarithmsHigh', '-ln c to the nearest multiple of 2^-42'),
-    ('LOGARITHMS_LOW', 'logarithmsLow', 'the rest of -ln c, nearest'),
+COLUMNS = [
+    ('reciprocal', 'reciprocals', 'c, the i/256 nearest to 1 / (1 + j/128)'),
+    ('excess', 'excesses', '(1 + j/128)*c - 1, exact'),
+    ('high', 'logarithmsHigh', '-ln c to the nearest multiple of 2^-42'),
+    ('low', 'logarithmsLow', 'the rest of -ln c, nearest'),
 ]
 
 
 def source(tables):
-    out = ['// The tables of ln: row j is for mantissas near 1 + j/128. Written and confirmed by tools/tables/logarithm.py.', '']
-    for (name, _, what), table in zip(NAMES, tables):
-        out.append('// ' + what)
-        out.append('pub const %s: [f64; %d] = [' % (name, STEPS))
-        out += ['    %s,' % repr(x) for x in table]
-        out += ['];', '']
-    return '\n'.join(out).rstrip() + '\n'
-
-
-def literal(x):
-    return 'ofBits binary64 0x%016X' % bits(x)
+    out = ['// The table of ln: row j is for mantissas near 1 + j/128. It is a match, which the compiler turns into constants in memory: an array',
+           '// would be stored anew in each call. Written and confirmed by tools/tables/logarithm.py, with specs/Tables.antt and the proof that they agree.',
+           'ghost use mathlib.Core.Path.{_≡_};', 'ghost use Prim.Native.Nat.{_<_};', 'ghost use Rattle.logarithm.specs.Rows.{rowOf};', '', 'pub struct Row {']
+    for field, _, what in COLUMNS:
+        out += ['    // ' + what, '    pub %s: f64,' % field]
+    out += ['}', '', 'pub fn row_of(j: u64) -> Row', '    requires { ⌜ j < %d ⌝ }' % STEPS, '    ensures { λ r. ⌜ r ≡ rowOf j ⌝ }', '{', '    match j {']
+    for j, row in enumerate(zip(*tables)):
+        out.append('        %s => Row {' % ('_' if j == STEPS - 1 else j))
+        out += ['            %s: %r,' % (field, x) for (field, _, _), x in zip(COLUMNS, row)]
+        out.append('        },')
+    return '\n'.join(out + ['    }', '}']) + '\n'
 
 
 def definitions(tables):
     out = ['-- The tables of ln: row j is for mantissas near 1 + j/128. Written and confirmed by tools/tables/logarithm.py. Definitions only.',
            'use mathlib.Core.List.{List, [], _∷_}', 'use lib.Ieee.{Float, binary64, ofBits}', '']
-    for (_, name, what), table in zip(NAMES, tables):
-        out.append('-- ' + what)
-        out.append('unfoldable pub %s : List Float' % name)
-        out.append('%s =' % name)
-        out += ['    %s ∷  -- %s' % (literal(x), repr(x)) for x in table]
+    for (_, name, what), table in zip(COLUMNS, tables):
+        out += ['-- ' + what, 'unfoldable pub %s : List Float' % name, '%s =' % name]
+        out += ['    ofBits binary64 0x%016X ∷  -- %r' % (bits(x), x) for x in table]
         out += ['    []', '']
     return '\n'.join(out).rstrip() + '\n'
+
+
+def proof(tables):
+    columns = ' '.join(name for _, name, _ in COLUMNS)
+    needs = ['returns'] + ['returns-%d' % k for k in range(2, STEPS + 1)]
+    out = ['-- `logarithm::tables::row_of` meets its contract, at each of its %d rows. Written by tools/tables/logarithm.py. Assumes nothing.' % STEPS,
+           'use lib.Ieee.{ofBits, neg}', 'use Rattle.logarithm.specs.Tables.{%s}' % columns.replace(' ', ', '),
+           'use Rattle.logarithm.specs.Rows.{rowOf}', 'use Rattle.logarithm.proofs.Arms.{last}',
+           'use Rattle.logarithm.proofs.tables.row_of.Statement.{statement}', 'use Rattle.logarithm.proofs.tables.row_of.Tie as tie']
+    for k, (need, row) in enumerate(zip(needs, zip(*tables)), 1):
+        # the source has a minus sign where the definition has the sign's bit
+        signs = 'ofBits neg ' if min(row) < 0 else ''
+        fact = 'c .match .keys%d' % k if k < STEPS else 'last %d (c .before .args .j) (c .before .pre) (c .match .rest)' % (STEPS - 1)
+        out += ['', '%s : tie.Need-%s' % (need, need), 'unfolding %srowOf %s' % (signs, columns), '%s c = rw (%s)' % (need, fact)]
+    out += ['', 'pub row-of-spec : {M : Type 1} → statement M', 'row-of-spec =', '    tie.close', '    (tie.spec']
+    return '\n'.join(out + ['    ' + need for need in needs]) + ')\n'
 
 
 LN2_HIGH, LN2_LOW = 0x3FE62E42FEFA3800, 0x3D2EF35793C76730
@@ -102,13 +116,15 @@ def check(tables):
 def main():
     tables = rows()
     check(tables)
-    files = [(os.path.join(CRATE, 'src', 'tables.rt'), source(tables)), (os.path.join(CRATE, 'specs', 'Tables.antt'), definitions(tables))]
+    files = [(os.path.join(CRATE, *path.split('/')), text) for path, text in [
+        ('src/tables.rt', source(tables)), ('specs/Tables.antt', definitions(tables)), ('proofs/tables/row_of/Proof.antt', proof(tables))]]
     if '--check' in sys.argv[1:]:
         for path, text in files:
             assert open(path, encoding='utf-8').read() == text, path
         print('logarithm: %d numbers confirmed' % (4 * STEPS + 2 + len(COEFFICIENTS)))
     else:
         for path, text in files:
+            os.makedirs(os.path.dirname(path), exist_ok=True)
             open(path, 'w', encoding='utf-8').write(text)
 
 

@@ -14,7 +14,7 @@ use Rattle.laws.proofs.Order.{nought, lt→le, le-ordered, le-trans-float, fini
 use Rattle.laws.proofs.Bits.{infBits, ofBits-bare, toBits-sign-bit, toBits-bare, toBits-at-most, bare-fits, bare-no-nan, bare-sign}
 use Rattle.laws.proofs.Interval.{Interval, iv, In, Expr, var, lit, product, eval, passes, Between, bounded, in-literals}
 use Rattle.angle.proofs.Ends.{bare-above, not-below, finite-of, positive-of, positive-above, at-most-largest, at-least-smallest}
-use Rattle.angle.specs.Angle.{zero, one, infinity, negative, magnitude, largerOf, smallerOf, sidesOf, times, loweredOf, raisedOf, scaledOf}
+use Rattle.angle.specs.Angle.{zero, one, infinity, negative, magnitude, largerOf, smallerOf, sidesOf, times, flat, even, loweredOf, raisedOf, scaledOf}
 use Rattle.angle.specs.Range.{lowest, highest, Ordered, Ranged}
 use Rattle.angle.specs.declared.angle.Triangle.{Triangle}
 
@@ -87,13 +87,13 @@ times-ranged c s o f C p z b =
       high = b .2;
     }
 
-flat : Ranged (record { long = one; short = zero })
-unfolding one zero lowest highest ofBits fits le
-flat = record { held = tt; start = tt; order = tt; low = tt; high = tt }
+flat-ranged : Ranged flat
+unfolding flat one zero lowest highest ofBits fits le
+flat-ranged = record { held = tt; start = tt; order = tt; low = tt; high = tt }
 
-even : Ranged (record { long = one; short = one })
-unfolding one zero lowest highest ofBits fits le
-even = record { held = tt; start = tt; order = tt; low = tt; high = tt }
+even-ranged : Ranged even
+unfolding even one zero lowest highest ofBits fits le
+even-ranged = record { held = tt; start = tt; order = tt; low = tt; high = tt }
 
 -- 2^-100 times what lies between 2^1000 and the largest
 far : Interval
@@ -136,7 +136,7 @@ lowered-ranged : (s : Triangle) → Ordered s → T (lt (ofBits binary64 0x7E700
 unfolding loweredOf
 lowered-ranged s o h =
     either Ranged (eq (s .long) infinity) _ _
-    (λ i. either Ranged (eq (s .short) infinity) _ _ (λ j. even) (λ j. flat))
+    (λ i. either Ranged (eq (s .short) infinity) _ _ (λ j. even-ranged) (λ j. flat-ranged))
     (λ i.
     let a = lt→le (ofBits binary64 0x7E70000000000000) (s .long) h in
     let f = finite-of (s .long) (long-above s o) (subst (λ (z : Float). eq (s .long) z ≡ false) infinity-is i) in
@@ -146,7 +146,7 @@ lowered-ranged s o h =
 raised-ranged : (s : Triangle) → Ordered s → T (lt (s .long) (ofBits binary64 0x0DF0000000000000)) → Ranged (raisedOf s)
 unfolding raisedOf
 raised-ranged s o h =
-    either Ranged (eq (s .long) zero) _ _ (λ i. flat)
+    either Ranged (eq (s .long) zero) _ _ (λ i. flat-ranged)
     (λ i.
     let a = lt→le (s .long) (ofBits binary64 0x0DF0000000000000) h in
     let f = finite-between nought (s .long) (ofBits binary64 0x0DF0000000000000) tt (unfold ofBits in tt) (long-above s o) a in

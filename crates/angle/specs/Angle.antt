@@ -58,30 +58,26 @@ times c s = record {
   short = mul binary64 (s .short) c;
 }
 
+-- what stands for a point on an axis, and for one on a diagonal
+unfoldable pub flat : Triangle
+flat = record {
+  long = one;
+  short = zero;
+}
+
+unfoldable pub even : Triangle
+even = record {
+  long = one;
+  short = one;
+}
+
 -- 2^-100; an infinity beside a finite side is as (1, 0), two are as (1, 1)
 unfoldable pub loweredOf : Triangle → Triangle
-loweredOf s =
-    cond (eq (s .long) infinity)
-    (cond (eq (s .short) infinity)
-    (record {
-      long = one;
-      short = one;
-    })
-    (record {
-      long = one;
-      short = zero;
-    }))
-    (times (ofBits binary64 0x39B0000000000000) s)
+loweredOf s = cond (eq (s .long) infinity) (cond (eq (s .short) infinity) even flat) (times (ofBits binary64 0x39B0000000000000) s)
 
 -- 2^200; two zeros are as (1, 0)
 unfoldable pub raisedOf : Triangle → Triangle
-raisedOf s =
-    cond (eq (s .long) zero)
-    (record {
-      long = one;
-      short = zero;
-    })
-    (times (ofBits binary64 0x4C70000000000000) s)
+raisedOf s = cond (eq (s .long) zero) flat (times (ofBits binary64 0x4C70000000000000) s)
 
 -- above 2^1000, below 2^-800
 unfoldable pub scaledOf : Triangle → Triangle

@@ -1,5 +1,5 @@
 // The angle of the point (x, y), atan2(y, x): the arc of shorter side / longer side from a table at 64ths and a series, then turned
-// into its quadrant. Own design, after the table method; DLMF 4.24.1 for the series, 4.24.15 for the step from a tabled arc.
+// into its quadrant. Own design, after the table method; DLMF 4.24.3 for the series, 4.24.15 for the step from a tabled arc.
 // Promised: the angle is the definition of specs/Angle.antt at every pair. Measured: 0.54 units in the last place.
 ghost use mathlib.Core.Path.{_≡_};
 ghost use mathlib.Core.Bool.{not, _&&_};

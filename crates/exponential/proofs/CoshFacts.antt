@@ -1,19 +1,16 @@
 -- For every x from -705 to 705 cosh is finite: the magnitude is below 1, where the polynomial stays small, or exp's pair is in range. Its value at 0, by computation. Assumes nothing.
 use mathlib.Core.Path.{_≡_, refl, sym, subst}
-use mathlib.Core.Bool.{Bool, true, false, cond}
-use mathlib.Core.List.{List, [], _∷_}
+use mathlib.Core.List.{[], _∷_}
 use lib.Dec.{T}
-use lib.Ieee.{Float, nan, inf, fin, binary64, ofBits, neg, add, sub, mul, lt, le}
-use lib.Ieee.Bits.{is-true}
+use lib.Ieee.{Float, binary64, ofBits, add, sub, mul, lt, le}
 use lib.Ieee.Scale.{finite}
-use Rattle.laws.proofs.Order.{lt→le}
 use Rattle.laws.proofs.Interval.{Interval, iv, Expr, var, lit, sum, difference, product, share, eval, passes, bounded, in-literals}
-use Rattle.laws.proofs.Value.{sign, bare}
-use Rattle.exponential.specs.Exp.{limit, lowerLimit, half, expPair, halfExpFar}
+use Rattle.laws.proofs.Value.{bare}
+use Rattle.exponential.specs.Exp.{limit, lowerLimit, half}
 use Rattle.exponential.specs.Cosh.{coshSmall, halfSum, coshMagnitude, coshOf}
 use Rattle.exponential.proofs.Ranges.{sum-finite}
-use Rattle.exponential.proofs.ExpFacts.{pair-parts}
-use Rattle.exponential.proofs.Signs.{bare-not-below-zero, bare-within, cosh-by-magnitude}
+use Rattle.exponential.proofs.Magnitudes.{split-finite, bare-not-below-zero, bare-within}
+use Rattle.exponential.proofs.Signs.{cosh-by-magnitude}
 
 -- ---- below 1
 abbrev unit : Interval
@@ -49,14 +46,9 @@ small-finite a l h =
     bounded binary64 (unit ∷ []) (a ∷ []) small-expr (ofBits binary64 0) (ofBits binary64 0x4010000000000000) (in-literals (ofBits binary64 0) (ofBits binary64 0x3FF0000000000000) a tt l h, tt) small-test .0
 
 -- ---- every magnitude up to 705
-module _ (a : Float) (z : T (le (ofBits binary64 0) a)) (l : T (le lowerLimit a)) (h : T (le a limit)) where
-  magnitude-finite : T (finite (coshMagnitude a))
-  unfolding coshMagnitude
-  magnitude-finite = go (lt a (ofBits binary64 0x3FF0000000000000)) (λ (t : T (lt a (ofBits binary64 0x3FF0000000000000))). t)
-    where
-      go : (b : Bool) → (T b → T (lt a (ofBits binary64 0x3FF0000000000000))) → T (finite (cond b (coshSmall a) (cond (le a limit) (halfSum (expPair a)) (halfExpFar a))))
-      go true k = small-finite a z (lt→le a (ofBits binary64 0x3FF0000000000000) (k tt))
-      go false k = simp (is-true (le a limit) h) (sum-finite (expPair a) (pair-parts a l h))
+magnitude-finite : (a : Float) → T (le (ofBits binary64 0) a) → T (le lowerLimit a) → T (le a limit) → T (finite (coshMagnitude a))
+unfolding coshMagnitude
+magnitude-finite a z l h = split-finite coshSmall halfSum small-finite sum-finite a z l h
 
 pub cosh-finite : (x : Float) → T (le lowerLimit x) → T (le x limit) → T (finite (coshOf x))
 cosh-finite x l h =

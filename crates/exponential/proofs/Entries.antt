@@ -1,5 +1,5 @@
 -- Where the entries of the tables lie, each table by one computed test. Assumes nothing.
-use mathlib.Core.Bool.{Bool, true, false, _&&_}
+use mathlib.Core.Bool.{Bool, true, _&&_}
 use mathlib.Core.List.{List, [], _∷_}
 use Prim.Native.Nat.{ℕ, zero, suc, _<_}
 use native.Mathlib.Nat.{le-of-suc-le-suc, not-suc-le-zero}
@@ -9,7 +9,7 @@ use lib.Ieee.{Float, nan, binary64, ofBits, le, lt, eq}
 use lib.Ieee.Fits.{and-l, and-r}
 use lib.Ieee.Scale.{finite}
 use Rattle.laws.proofs.Interval.{Interval, iv, In}
-use Rattle.exponential.specs.Tables.{coarseHigh, coarseLow, fineHigh, fineLow}
+use Rattle.exponential_tables.specs.Tables.{coarseHigh, coarseLow, fineHigh, fineLow}
 
 -- each entry lies between l and h
 unfoldable pub between : Float → Float → List Float → Bool

@@ -1,6 +1,6 @@
 -- For every x from -705 to 705 exp is finite and above 0. Its value at 0, by computation. Assumes nothing.
 use mathlib.Core.Path.{_≡_, refl, sym, subst, _∙_}
-use mathlib.Core.Bool.{false, cond, _&&_}
+use mathlib.Core.Bool.{false, _&&_}
 use Prim.Native.Nat.{_/_, _%_, _<_}
 use native.Mathlib.Omega.{arith}
 use lib.Dec.{T, lit<}
@@ -14,7 +14,7 @@ use Rattle.laws.proofs.Interval.{Between}
 use Rattle.laws.proofs.Relative.{positive-num}
 use Rattle.laws.proofs.Value.{lt-of-values}
 use Rattle.laws.proofs.Bits.{bits-positive}
-use Rattle.exponential.specs.Tables.{coarseHigh, coarseLow, fineHigh, fineLow, coarsePower, finePower}
+use Rattle.exponential_tables.specs.Tables.{coarseHigh, coarseLow, fineHigh, fineLow, coarsePower, finePower}
 use Rattle.exponential.specs.Exp.{limit, lowerLimit, shifted, steps, rest, growth, product, expPair, total, expOf}
 use Rattle.exponential.proofs.Reduction.{steps-range}
 use Rattle.exponential.proofs.Entries.{coarse-high-in, coarse-low-in, fine-high-in, fine-low-in}

@@ -1,5 +1,4 @@
 -- The theorems, by topic.
-pub mod Arms
 pub mod Tests
 pub mod Reduction
 pub mod Signs
@@ -7,5 +6,6 @@ pub mod Entries
 pub mod Ranges
 pub mod Rest
 pub mod ExpFacts
+pub mod Magnitudes
 pub mod SinhFacts
 pub mod CoshFacts

@@ -5,8 +5,8 @@ use mathlib.Core.List.{List, [], _∷_}
 use lib.Dec.{T}
 use lib.Ieee.{Float, binary64, ofBits, neg}
 use lib.Ieee.Scale.{finite}
-use Rattle.laws.proofs.Interval.{Interval, iv, In, Expr, var, lit, sum, difference, product, quotient, share, eval, value, passes, Inside, Between, bounded, in-literals}
-use Rattle.exponential.specs.declared.exp.Pair.{Pair}
+use Rattle.laws.proofs.Interval.{Interval, iv, In, Expr, var, lit, sum, difference, product, quotient, share, eval, passes, Inside, Between, bounded, in-literals}
+use Rattle.exponential_tables.specs.declared.Pair.{Pair}
 use Rattle.exponential.specs.Exp as exp
 use Rattle.exponential.specs.Sinh.{halfDifference}
 use Rattle.exponential.specs.Cosh.{halfSum}

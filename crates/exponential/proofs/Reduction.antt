@@ -1,6 +1,6 @@
 -- The reduction of an x from -705 to 705: adding 1.5 * 2^47 rounds x to a multiple of 1/32, whose count from -708 on is from 96 to 45216. Assumes nothing.
 use mathlib.Core.Path.{_≡_, refl, subst}
-use Prim.Native.Nat.{ℕ, _+_, _-_, _/_, _≤_, _<_}
+use Prim.Native.Nat.{_-_, _≤_, _<_}
 use native.Mathlib.Omega.{arith}
 use mathlib.Core.Bool.{false, not}
 use lib.Dec.{T, lit<}
@@ -8,7 +8,7 @@ use lib.Ieee.{Float, binary64, ofBits, toBits, inf, add, mul, div, neg, lt, le, 
 use lib.Ieee.Fits.{add-fits}
 use lib.Ieee.Scale.{finite}
 use Rattle.laws.proofs.Order.{le-refl-finite, le-trans-float, finite-between, add-mono}
-use Rattle.laws.proofs.Interval.{Interval, iv, In, some, checked, mulI, mulBy, mulPos, mul-in}
+use Rattle.laws.proofs.Interval.{Interval, iv, In, checked, mulI, mulBy, mulPos, mul-in}
 use Rattle.laws.proofs.Value.{finite-no-nan}
 use Rattle.laws.proofs.Bits.{bits-between, bits-finite}
 use Rattle.exponential.proofs.Tests.{not-below, ordered}

@@ -1,15 +1,14 @@
 -- What is left of an x from -705 to 705 once the nearest multiple of 1/32 is taken off is at most 1/64 either way: with 1/64 added it is from 0 to 1/32. Assumes nothing.
-use mathlib.Core.Path.{_≡_, refl, subst}
+use mathlib.Core.Path.{refl}
 use mathlib.Core.Bool.{false}
-use Prim.Native.Nat.{ℕ, _+_, _*_, _^_, _≤_, _<_}
+use Prim.Native.Nat.{_+_, _*_, _^_, _≤_, _<_}
 use native.Mathlib.Omega.{arith}
 use lib.Dec.{T, lit<, lit≤}
 use lib.Ieee.{Float, binary64, ofBits, neg, add, sub, le, round}
 use lib.Ieee.Exact.{HasValue}
 use lib.Ieee.Positive.{den, den-pos}
-use lib.Ieee.Scale.{finite}
 use Rattle.laws.proofs.Order.{posPart, negPart, Rounds, plus, less, rounds-mono}
-use Rattle.laws.proofs.Interval.{Interval, iv, In, some, checked, addI, add-in}
+use Rattle.laws.proofs.Interval.{Interval, iv, In, checked, addI, add-in}
 use Rattle.laws.proofs.Grid.{Is, is-own, le-is, is-plus, is-less, is-sub, Snapped, snap-right, snap-sub}
 use Rattle.exponential.specs.Exp.{limit, lowerLimit, shifted, rest}
 use Rattle.exponential.proofs.Reduction.{within-finite}

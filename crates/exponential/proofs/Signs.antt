@@ -1,18 +1,14 @@
 -- The sign of x is taken off and put back: sinh is odd and cosh is even, not-a-numbers, infinities and both zeros included. Assumes nothing.
-use mathlib.Core.Path.{_≡_, refl, sym, ap, _∙_, subst}
-use mathlib.Core.Bool.{Bool, true, false, cond}
-use Prim.Native.Nat.{ℕ, _%_, _^_, _≤_, _<_}
-use native.Mathlib.Omega.{arith}
+use mathlib.Core.Path.{_≡_, refl, sym, ap, _∙_}
+use mathlib.Core.Bool.{true, false, cond}
+use Prim.Native.Nat.{ℕ, _%_, _≤_, _<_}
 use borrow.Author.Tests.{le-leb, lt-leb}
-use lib.Dec.{T, leb, lit<}
+use lib.Dec.{T, leb}
 use lib.Ieee.{Float, nan, inf, fin, binary64, neg, lt, le, ne, eq, ofBits, toBits, fits, isNan}
 use lib.Ieee.Bits.{ofBits-toBits}
-use lib.Ieee.Order.{le-of-values}
-use lib.Ieee.Positive.{num, den, den-pos}
-use Rattle.laws.proofs.Order.{neg-anti}
 use Rattle.laws.proofs.Value.{sign, bare}
 use Rattle.laws.proofs.Bits.{ofBits-bare, toBits-sign-bit}
-use Rattle.exponential.specs.Exp.{limit, lowerLimit, halfExpFar}
+use Rattle.exponential.specs.Exp.{limit, halfExpFar}
 use Rattle.exponential.specs.Sinh.{sinhMagnitude, sinhOf}
 use Rattle.exponential.specs.Cosh.{coshMagnitude, coshOf}
 
@@ -81,22 +77,3 @@ unfolding coshOf neg
 cosh-even nan = refl
 cosh-even (inf s) = refl
 cosh-even (fin s m e) = refl
-
--- ---- a magnitude is not below 0, and lies between the same limits
-pub bare-not-below-zero : (x : Float) → T (le lowerLimit x) → T (le (ofBits binary64 0) (bare x))
-unfolding le lt lowerLimit limit ofBits neg
-bare-not-below-zero nan l = l
-bare-not-below-zero (inf s) l = tt
-bare-not-below-zero (fin s m e) l = le-of-values (ofBits binary64 0) (fin false m e) 0 1 (num (fin false m e)) (den (fin false m e)) (lit< tt) (den-pos (fin false m e)) (refl, refl) (refl, refl) (omega arith)
-
-turned : neg lowerLimit ≡ limit
-unfolding lowerLimit limit ofBits neg
-turned = refl
-
-pub bare-within : (x : Float) → T (le lowerLimit x) → T (le x limit) → T (le lowerLimit (bare x)) × T (le (bare x) limit)
-unfolding le lt lowerLimit limit ofBits neg
-bare-within nan l h = (l, h)
-bare-within (inf false) l h = (l, h)
-bare-within (inf true) l h = absurd l
-bare-within (fin false m e) l h = (l, h)
-bare-within (fin true m e) l h = (neg-anti (fin true m e) limit h, subst (λ (z : Float). T (le (fin false m e) z)) turned (neg-anti lowerLimit (fin true m e) l))

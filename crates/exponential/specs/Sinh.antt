@@ -3,7 +3,7 @@ use mathlib.Core.Bool.{false, cond}
 use lib.Ieee.{Float, nan, inf, fin, binary64, ofBits, neg, lt, le}
 use Rattle.exponential.specs.Operators.{_⊕_, _⊖_, _⊗_, _⊘_}
 use Rattle.exponential.specs.Exp.{limit, half, expPair, halfExpFar}
-use Rattle.exponential.specs.declared.exp.Pair.{Pair}
+use Rattle.exponential_tables.specs.declared.Pair.{Pair}
 
 -- below 1: the odd polynomial of degree 15
 unfoldable pub sinhSmall : Float → Float

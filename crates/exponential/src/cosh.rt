@@ -3,9 +3,9 @@
 // Measured: 0.753 units in the last place up to 705, 1.1 beyond.
 ghost use mathlib.Core.Path.{_≡_};
 ghost use Rattle.exponential.specs.Cosh.{coshSmall, halfSum, coshMagnitude, coshOf};
-use crate::exp::Pair;
 use crate::exp::exp_pair;
 use crate::exp::half_exp_far;
+use exponential_tables::Pair;
 use machine::bits::of_pattern;
 use machine::bits::pattern;
 

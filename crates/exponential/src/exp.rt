@@ -6,15 +6,10 @@ ghost use mathlib.Core.Bool.{false};
 ghost use lib.Dec.{T};
 ghost use lib.Ieee.{le, lt, binary64, ofBits};
 ghost use Rattle.exponential.specs.Exp.{limit, lowerLimit, growth, product, expPair, square, total, expFar, expOf, halfExpFar};
-use crate::tables::coarse;
-use crate::tables::fine;
+use exponential_tables::Pair;
+use exponential_tables::tables::coarse;
+use exponential_tables::tables::fine;
 use machine::constants::not_a_number;
-
-// A value as a leading part and what is left of it.
-pub struct Pair {
-    pub hi: f64,
-    pub lo: f64,
-}
 
 // 1.5 * 2^47: a sum with it has 1/32 for its last digit
 const SHIFT: f64 = 211106232532992.0;

@@ -2,4 +2,3 @@
 pub mod cosh;
 pub mod exp;
 pub mod sinh;
-pub mod tables;

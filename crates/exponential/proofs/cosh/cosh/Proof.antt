@@ -1,9 +1,9 @@
 -- `exponential::cosh::cosh` meets its contract: the bits' remainder by 2^63 is the magnitude's pattern. Assumes nothing.
-use mathlib.Core.Path.{_≡_, sym, ap, _∙_, subst}
+use mathlib.Core.Path.{sym, ap, _∙_, subst}
 use borrow.Author.Needs.{needs}
 use lib.Dec.{T}
-use lib.Ieee.{Float, binary64, fits}
-use Rattle.exponential.specs.Cosh.{coshMagnitude, coshOf}
+use lib.Ieee.{binary64, fits}
+use Rattle.exponential.specs.Cosh.{coshMagnitude}
 use Rattle.exponential.proofs.Signs.{magnitude-by-bits, cosh-by-magnitude}
 use Rattle.exponential.proofs.cosh.cosh.Statement.{statement}
 use Rattle.exponential.proofs.cosh.cosh.Tie as tie

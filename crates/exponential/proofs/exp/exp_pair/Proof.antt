@@ -1,8 +1,6 @@
 -- `exponential::exp::exp_pair` meets its contract: the indices are in range by the reduction, and the formula is the definition's. Assumes nothing.
-use mathlib.Core.Path.{refl}
 use borrow.Author.Needs.{needs}
 use native.Mathlib.Omega.{arith}
-use lib.Ieee.{binary64, toBits}
 use Rattle.exponential.specs.Exp.{shifted, steps, rest, expPair}
 use Rattle.exponential.proofs.Reduction.{shifted-no-nan, shifted-bits}
 use Rattle.exponential.proofs.exp.exp_pair.Statement.{statement}

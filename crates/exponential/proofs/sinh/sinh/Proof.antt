@@ -1,9 +1,9 @@
 -- `exponential::sinh::sinh` meets its contract: the bits' remainder by 2^63 is the magnitude's pattern, and the sign is set where they are 2^63 or more. Assumes nothing.
-use mathlib.Core.Path.{_≡_, sym, ap, _∙_, subst}
+use mathlib.Core.Path.{sym, ap, _∙_, subst}
 use borrow.Author.Needs.{needs}
 use lib.Dec.{T}
-use lib.Ieee.{Float, binary64, neg, fits}
-use Rattle.exponential.specs.Sinh.{sinhMagnitude, sinhOf}
+use lib.Ieee.{binary64, neg, fits}
+use Rattle.exponential.specs.Sinh.{sinhMagnitude}
 use Rattle.exponential.proofs.Signs.{magnitude-by-bits, sign-set, sign-clear, sinh-by-sign}
 use Rattle.exponential.proofs.sinh.sinh.Statement.{statement}
 use Rattle.exponential.proofs.sinh.sinh.Tie as tie

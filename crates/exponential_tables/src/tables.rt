@@ -3,8 +3,8 @@
 // Written by tools/tables/exponential.py, with specs/Tables.antt and the proofs that they agree.
 ghost use mathlib.Core.Path.{_≡_};
 ghost use Prim.Native.Nat.{_<_};
-ghost use Rattle.exponential.specs.Tables.{coarsePower, finePower};
-use crate::exp::Pair;
+ghost use Rattle.exponential_tables.specs.Tables.{coarsePower, finePower};
+use crate::Pair;
 
 // e^(8(i-88))
 pub fn coarse(i: usize) -> Pair

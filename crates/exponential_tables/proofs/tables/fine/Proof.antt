@@ -1,9 +1,9 @@
--- `exponential::tables::fine` meets its contract, at each of its 256 indices. Assumes nothing.
+-- `exponential_tables::tables::fine` meets its contract, at each of its 256 indices. Assumes nothing.
 -- Written by tools/tables/exponential.py.
-use Rattle.exponential.specs.Tables.{fineHigh, fineLow, finePower}
-use Rattle.exponential.proofs.Arms.{last}
-use Rattle.exponential.proofs.tables.fine.Statement.{statement}
-use Rattle.exponential.proofs.tables.fine.Tie as tie
+use Rattle.exponential_tables.specs.Tables.{fineHigh, fineLow, finePower}
+use Rattle.exponential_tables.proofs.Arms.{last}
+use Rattle.exponential_tables.proofs.tables.fine.Statement.{statement}
+use Rattle.exponential_tables.proofs.tables.fine.Tie as tie
 
 returns : tie.Need-returns
 unfolding fineHigh fineLow finePower

@@ -4,7 +4,7 @@ use mathlib.Core.List.{List, [], _∷_}
 use Prim.Native.Nat.{ℕ}
 use lib.ListN.{getD}
 use lib.Ieee.{Float, nan, binary64, ofBits}
-use Rattle.exponential.specs.declared.exp.Pair.{Pair}
+use Rattle.exponential_tables.specs.declared.Pair.{Pair}
 
 -- e^(8(i-88)), the leading 26 digits
 unfoldable pub coarseHigh : List Float

@@ -105,7 +105,7 @@ tabledOf j = record {{
 
 NAMES = ["returns" if j == 0 else f"returns-{j + 1}" for j in range(STEPS + 1)]
 ANSWERS = [answer(NAMES[j], f"rw (c .match .keys{j + 1})") for j in range(STEPS)]
-ANSWERS.append(answer(NAMES[STEPS], f"rw (last {STEPS} (c .before .args .j) (c .match .rest) (c .before .pre))"))
+ANSWERS.append(answer(NAMES[STEPS], f"rw (last {STEPS} (c .before .args .j) (c .before .pre) (c .match .rest))"))
 
 PROOF = f"""-- `angle::tables::tabled` meets its contract: an arm for each entry. Written by tools/tables/angle.py. Assumes nothing.
 use Rattle.angle.proofs.Arms.{{last}}

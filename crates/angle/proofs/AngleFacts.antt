@@ -1,16 +1,17 @@
 -- The angle of a point is finite wherever neither part is a not-a-number, zeros and infinities included, and it is odd in y. The values on the
 -- axes and at (1, 1) are the nearest f64, by computation. Assumes nothing.
 use mathlib.Core.Path.{_≡_, refl, sym, ap, _∙_, subst}
-use mathlib.Core.List.{List, [], _∷_}
-use mathlib.Core.Bool.{Bool, true, false, not, _||_, cond}
+use mathlib.Core.List.{[], _∷_}
+use mathlib.Core.Bool.{Bool, true, false, not, cond}
 use Prim.Native.Nat.{ℕ}
 use lib.Dec.{T, lit<, lit≤}
-use lib.Ieee.{Float, nan, inf, fin, binary64, ofBits, toBits, neg, add, sub, mul, div, lt, le, eq, fits, isNan}
+use lib.Ieee.{Float, nan, binary64, ofBits, toBits, neg, add, sub, mul, div, lt, le, eq, fits, isNan}
 use lib.Ieee.Bits.{is-false}
 use lib.Ieee.Fits.{neg-fits}
 use lib.Ieee.Scale.{finite}
-use Rattle.laws.proofs.Value.{sign, bare, finite-no-nan}
+use Rattle.laws.proofs.Value.{finite-no-nan}
 use Rattle.laws.proofs.Order.{neg-finite}
+use Rattle.laws.proofs.Sign.{neg-neg, neg-sign, neg-nan, bare-neg}
 use Rattle.laws.proofs.Mag.{Mag, magTest, mag-literal, mag-neg, mag-add, mag-sub}
 use Rattle.angle.proofs.Arc.{ArcSize, arc-size}
 use Rattle.angle.proofs.Sides.{magnitude-is, negative-is, magnitude-fits, magnitude-above, sides-ordered, scaled-ranged}
@@ -61,32 +62,6 @@ pub angle-finite : (y x : Float) → T (fits binary64 y) → T (fits binary64 x)
 angle-finite y x F G f g = angle-number-finite y x F G (finite-no-nan y f) (finite-no-nan x g)
 
 -- ---- odd in y
-neg-neg : (r : Float) → neg (neg r) ≡ r
-unfolding neg
-neg-neg nan = refl
-neg-neg (inf true) = refl
-neg-neg (inf false) = refl
-neg-neg (fin true m e) = refl
-neg-neg (fin false m e) = refl
-
-bare-neg : (y : Float) → bare (neg y) ≡ bare y
-unfolding neg
-bare-neg nan = refl
-bare-neg (inf s) = refl
-bare-neg (fin s m e) = refl
-
-sign-neg : (y : Float) → T (not (isNan y)) → sign (neg y) ≡ not (sign y)
-unfolding neg isNan
-sign-neg nan n = absurd n
-sign-neg (inf s) n = refl
-sign-neg (fin s m e) n = refl
-
-nan-neg : (y : Float) → isNan (neg y) ≡ isNan y
-unfolding neg isNan
-nan-neg nan = refl
-nan-neg (inf s) = refl
-nan-neg (fin s m e) = refl
-
 signed-not : (s : Bool) (r : Float) → signed (not s) r ≡ neg (signed s r)
 unfolding signed
 signed-not true r = sym (neg-neg r)
@@ -100,7 +75,7 @@ same-magnitude y F = magnitude-is (neg y) (neg-fits binary64 y F) ∙ bare-neg y
 
 other-sign : (y : Float) → T (fits binary64 y) → T (not (isNan y)) → negative (neg y) ≡ not (negative y)
 other-sign y F n =
-    negative-is (neg y) (neg-fits binary64 y F) (subst (λ (b : Bool). T (not b)) (sym (nan-neg y)) n) ∙ sign-neg y n ∙ ap not (sym (negative-is y F n))
+    negative-is (neg y) (neg-fits binary64 y F) (subst (λ (b : Bool). T (not b)) (sym (neg-nan y)) n) ∙ neg-sign y n ∙ ap not (sym (negative-is y F n))
 
 nan-is : nan ≡ neg nan
 unfolding neg
@@ -111,10 +86,10 @@ unfolding angleOf signed
 angle-odd y x F = go (isNan y) (isNan x) refl refl
   where
     go : (a b : Bool) → isNan y ≡ a → isNan x ≡ b → angleOf (neg y) x ≡ neg (angleOf y x)
-    go true b p q = rw (nan-neg y, p) nan-is
-    go false true p q = rw (nan-neg y, p, q) nan-is
+    go true b p q = rw (neg-nan y, p) nan-is
+    go false true p q = rw (neg-nan y, p, q) nan-is
     go false false p q =
-        rw (nan-neg y, p, q, same-magnitude y F, other-sign y F (number y p)) (signed-not (negative y) (upperOf (magnitude y) (magnitude x) (negative x)))
+        rw (neg-nan y, p, q, same-magnitude y F, other-sign y F (number y p)) (signed-not (negative y) (upperOf (magnitude y) (magnitude x) (negative x)))
 
 -- ---- values, by their patterns
 unfoldable pub at : ℕ → ℕ → ℕ

@@ -1,24 +1,21 @@
 -- How large the parts of the tabled arc can be. Every line of the tangent is homogeneous in the longer side, so that with its binade 2^p the tangent is at most 8, whatever p is;
 -- what is left of it is at most 2^9, and the arc is finite. Exponents count from 2^-1074, so that 1 has 1074. Assumes nothing.
-use mathlib.Core.Path.{_≡_, refl, sym, ap, _∙_, subst}
 use Prim.Native.Nat.{ℕ, suc, _+_, _-_, _≤_, _<_}
-use native.Mathlib.Nat.{le-trans, mul-le-mul-right}
 use native.Mathlib.Omega.{arith}
 use mathlib.Core.Bool.{Bool, true, false, _&&_, cond}
 use lib.Dec.{T, lit<, lit≤}
-use lib.Pow.{pow-mono}
 use lib.ListN.{getD}
 use lib.Ieee.{Float, nan, binary64, ofBits, neg, add, sub, mul, div, le}
 use lib.Ieee.Fits.{and-l, and-r, add-fits, mul-fits}
-use lib.Ieee.Positive.{positive, den}
+use lib.Ieee.Positive.{positive}
 use Rattle.laws.proofs.Order.{nought, le-trans-float, finite-between}
 use Rattle.laws.proofs.Interval.{Between}
 use Rattle.laws.proofs.Bound.{every, every-at}
-use Rattle.laws.proofs.Mag.{Mag, AtLeast, Under, magTest, atLeastTest, mag-literal, at-least-literal, mag-mul, mag-div, mag-add, mag-sub}
+use Rattle.laws.proofs.Mag.{Mag, AtLeast, magTest, atLeastTest, mag-literal, at-least-literal, mag-weaken, at-least-of-le, mag-mul, mag-div, mag-add, mag-sub}
 use Rattle.angle.proofs.Ends.{product-at-least-zero}
-use Rattle.angle.proofs.Magnitude.{mag-below, at-least-above, at-least-add, mag-cut, binade}
+use Rattle.angle.proofs.Magnitude.{mag-below, at-least-add, mag-cut, binade}
 use Rattle.angle.proofs.Sides.{from-zero}
-use Rattle.angle.proofs.Step.{long-finite, long-positive, short-above, short-finite, quotient-between, index-below, value-between}
+use Rattle.angle.proofs.Step.{long-finite, long-positive, short-above, quotient-between, index-below, value-between}
 use Rattle.angle.specs.Angle.{zero, one, leading, stepOf, tangentOf, seriesOf, joinedOf, tabledArcOf, arcOf}
 use Rattle.angle.specs.Tables.{atanHigh, atanLow, tabledOf}
 use Rattle.angle.specs.Range.{lowest, highest, Ranged}
@@ -161,7 +158,7 @@ module _ (s : Triangle) (r : Ranged s) (t : Float) (i : Between zero one t) wher
       let f = long-finite s r in
       let q = long-positive s r in
       let z : T (le nought (s .long)) = le-trans-float nought (s .short) (s .long) (short-above s r) (r .order) in
-      let n = binade (s .long) (at-least-above (s .long) lowest-over (unfold ofBits in tt) q (r .low)) (mag-below (s .long) highest-size f z (r .high)) in
+      let n = binade (s .long) (at-least-of-le lowest-over (unfold ofBits le in tt) (r .low) f) (mag-below (s .long) highest-size z (r .high)) in
       record {
         p = n .power;
         least = n .from;
@@ -169,9 +166,9 @@ module _ (s : Triangle) (r : Ranged s) (t : Float) (i : Between zero one t) wher
         over = n .over;
         plus = q;
         a-size = n .under;
-        b-size = mag-below (s .short) (n .under) (short-finite s r) (short-above s r) (r .order);
+        b-size = mag-below (s .short) (n .under) (short-above s r) (r .order);
         b-above = short-above s r;
-        t-size = mag-below t one-size (i .0) (from-zero t (i .1)) (i .2);
+        t-size = mag-below t one-size (from-zero t (i .1)) (i .2);
         t-above = from-zero t (i .1);
         h-size = mag-cut (s .long) (r .held) (n .under);
       }
@@ -251,17 +248,13 @@ zero-size : Mag binary64 1074 zero
 unfolding zero ofBits magTest
 zero-size = mag-literal tt
 
-weaker : {n m : ℕ} {x : Float} → n ≤ m → Mag binary64 n x → Mag binary64 m x
-unfolding Under
-weaker {n} {m} {x} h p = record { fine = p .fine; under = le-trans (p .under) (mul-le-mul-right (den x) (pow-mono h)) }
-
 pub arc-size : (s : Triangle) → Ranged s → ArcSize (arcOf s)
 unfolding arcOf tabledArcOf tabledOf
 arc-size s r =
     either (λ (a : Sum). ArcSize a) (le (s .short) (mul binary64 (s .long) (ofBits binary64 0x3E30000000000000)))
     (record { high = div binary64 (s .short) (s .long); low = zero })
     (tabledArcOf s)
-    (record { high = weaker (lit≤ tt) (mag-below (div binary64 (s .short) (s .long)) one-size (quotient-between s r .0) (from-zero (div binary64 (s .short) (s .long)) (quotient-between s r .1)) (quotient-between s r .2)); low = weaker (lit≤ tt) zero-size })
+    (record { high = mag-weaken (mag-below (div binary64 (s .short) (s .long)) one-size (from-zero (div binary64 (s .short) (s .long)) (quotient-between s r .1)) (quotient-between s r .2)) (lit≤ tt); low = mag-weaken zero-size (lit≤ tt) })
     (joined-size (tabledOf (stepOf s .index)) (tangentOf s (stepOf s .value))
     (high-entry (stepOf s .index) (index-below s r)) (low-entry (stepOf s .index) (index-below s r))
     (tangent-value-size s r (stepOf s .value) (value-between s r)) (tangent-high-size s r (stepOf s .value) (value-between s r)) (tangent-low-size s r (stepOf s .value) (value-between s r)))

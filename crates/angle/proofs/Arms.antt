@@ -1,21 +1,15 @@
--- What is left of a match on 0, 1, .. n - 1: n, where the number is at most n. Assumes nothing.
+-- A match over 0, 1, .., n - 1 and the rest: what is at most n and none of them is n. Assumes nothing.
 use mathlib.Core.Path.{_≡_}
-use mathlib.Core.List.{List, [], _∷_}
-use Prim.Native.Nat.{ℕ, zero, suc, _≤_, _<_}
+use mathlib.Core.Logic.{inl, inr}
+use Prim.Native.Nat.{ℕ, zero, suc, _<_}
+use native.Mathlib.Nat.{eq-or-lt-of-le, le-of-suc-le-suc}
 use native.Mathlib.Omega.{arith}
-use types.Run.{OneOf}
 
--- as the default arm has it: a fact for each arm before it
-abbrev pub Others : ℕ → ℕ → Type 0
-Others zero j = Unit {0}
-Others (suc n) j = Others n j × (OneOf (n ∷ []) j → ⊥)
+-- what the last arm is told: none of the others' numbers
+abbrev pub NoneOf : ℕ → ℕ → Type 0
+NoneOf zero j = Unit {0}
+NoneOf (suc n) j = NoneOf n j × (j ≡ n → ⊥)
 
-past : (n j : ℕ) → Others n j → n ≤ j
-past zero j o = omega arith
-past (suc n) j o = next n j (past n j (o .0)) (o .1)
-  where
-    next : (n j : ℕ) → n ≤ j → (j ≡ n → ⊥) → suc n ≤ j
-    next n j h k = omega arith
-
-pub last : (n j : ℕ) → Others n j → j < suc n → j ≡ n
-last n j o h = let k = past n j o in omega arith
+pub last : (n j : ℕ) → j < suc n → NoneOf n j → j ≡ n
+last zero j h r = omega arith
+last (suc n) j h r = elim (eq-or-lt-of-le (le-of-suc-le-suc h)) [ inl e ↦ e | inr l ↦ absurd (r .1 (last n j l (r .0))) ]

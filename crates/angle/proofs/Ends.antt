@@ -1,21 +1,21 @@
 -- The ends of the floats without a minus sign: a value above zero is no smaller than the smallest, a finite one no larger than the largest;
 -- the order's tests at zero and at infinity; a value over itself is 1. Assumes nothing.
 use mathlib.Core.Path.{_≡_, refl, sym, ap, _∙_, subst}
-use Prim.Native.Nat.{ℕ, zero, suc, _+_, _*_, _≤_, _<_, zero-le}
-use native.Mathlib.Nat.{mul-pos, mul-comm, mul-one, zero-mul, mul-zero, lt-irrefl, zero-lt-suc}
+use Prim.Native.Nat.{ℕ, zero, suc, _+_, _*_, _≤_, _<_}
+use native.Mathlib.Nat.{mul-pos, mul-one, zero-mul, mul-zero, lt-irrefl, zero-lt-suc}
 use native.Mathlib.Omega.{arith}
-use mathlib.Core.Bool.{Bool, true, false, not, _&&_, _||_, Bool·beq, true≢false, cond}
-use lib.IntN.{ℤ, pos}
-use lib.Dec.{T, ltb, eqb, ltb→lt, lt→ltb, lit<, lit≤}
-use lib.Ieee.{Float, nan, inf, fin, Format, binary64, up, down, ofBits, toBits, round, mul, div, fits, isNan, lt, le, eq}
+use mathlib.Core.Bool.{Bool, true, false, not, _&&_, _||_, Bool·beq, true≢false}
+use lib.Dec.{T, eqb, ltb→lt, lt→ltb, lit<}
+use lib.Ieee.{Float, nan, inf, fin, binary64, up, down, ofBits, toBits, round, mul, div, fits, isNan, lt, le, eq}
 use lib.Ieee.Bits.{ofBits-toBits}
 use lib.Ieee.Fits.{up-pos, down-pos}
-use lib.Ieee.Scale.{finite, round-same}
-use lib.Ieee.Positive.{num, den, positive, above-of-le, positive-finite, value-pos, own-value, den-pos}
+use lib.Ieee.Scale.{finite}
+use lib.Ieee.Positive.{num, den, positive, above-of-le, positive-finite, den-pos}
 use lib.Ieee.Order.{le-of-values}
-use Rattle.laws.proofs.Value.{sign, bare, own-fraction}
+use Rattle.laws.proofs.Value.{sign, bare}
+use Rattle.laws.proofs.Relative.{positive-num}
 use Rattle.laws.proofs.Order.{nought, posPart, negPart, nonneg, not-lt→le, le→Le, round-zero, Rounds, plus, rounds-mono, mul-rounds, div-rounds}
-use Rattle.laws.proofs.Bits.{infBits, bits-le, toBits-finite, lt→toBits}
+use Rattle.laws.proofs.Bits.{bits-le, toBits-finite, lt→toBits}
 
 -- ---- no minus sign
 pub bare-above : (x : Float) → T (not (isNan x)) → T (le nought (bare x))
@@ -104,7 +104,7 @@ positive-part (fin false m e) p = refl
 pub quotient-at-most-one : (x y : Float) → T (finite x) → T (positive y) → T (le x y) → T (le (div binary64 x y) (ofBits binary64 0x3FF0000000000000))
 quotient-at-most-one x y p q h =
     rounds-mono binary64 (posPart x * den y) (negPart x * den y) (num y * den x) 1 0 1 (div binary64 x y) (ofBits binary64 0x3FF0000000000000)
-    (mul-pos (value-pos y (num y) (den y) q (den-pos y) (own-value y q)) (den-pos x)) (lit< tt) (div-rounds binary64 x y p q) one-rounds
+    (mul-pos (positive-num y q) (den-pos x)) (lit< tt) (div-rounds binary64 x y p q) one-rounds
     (at-one (posPart x * den y) (negPart y * den x) (num y * den x) (negPart x * den y)
     (subst (λ (n : ℕ). posPart x * den y + negPart y * den x ≤ n * den x + negPart x * den y) (positive-part y q) (le→Le x y p (positive-finite y q) h)))
   where
@@ -121,7 +121,7 @@ at-zero a b c h = omega arith
 pub quotient-at-least-zero : (x y : Float) → T (finite x) → T (positive y) → T (le nought x) → T (le nought (div binary64 x y))
 quotient-at-least-zero x y p q h =
     rounds-mono binary64 0 0 1 (posPart x * den y) (negPart x * den y) (num y * den x) nought (div binary64 x y)
-    (lit< tt) (mul-pos (value-pos y (num y) (den y) q (den-pos y) (own-value y q)) (den-pos x)) zero-rounds (div-rounds binary64 x y p q)
+    (lit< tt) (mul-pos (positive-num y q) (den-pos x)) zero-rounds (div-rounds binary64 x y p q)
     (at-zero (posPart x * den y) (negPart x * den y) (num y * den x) (ap (λ (n : ℕ). n * den y) (nonneg x p h) ∙ zero-mul (den y)))
 
 pub product-at-least-zero : (x y : Float) → T (finite x) → T (finite y) → T (le nought x) → T (le nought y) → T (le nought (mul binary64 x y))

@@ -1,57 +1,37 @@
 -- Sizes between powers of two, further: what is smaller is bounded by the same power, a sum of what is not negative is bounded from below by each part,
 -- the leading 26 digits are no larger than the number, and each number has its binade. Assumes nothing.
 use mathlib.Core.Path.{_≡_, refl, sym, ap, _∙_, subst}
-use Prim.Native.Nat.{ℕ, zero, suc, pred, _+_, _*_, _-_, _/_, _%_, _^_, _≤_, _<_, zero-le}
-use native.Mathlib.Nat.{le-trans, le-of-eq, le-of-lt, lt-of-le-of-lt, lt-of-lt-of-le, not-le-of-lt, lt-irrefl, mul-pos, mul-comm, mul-assoc, mul-right-comm, mul-one, zero-mul, le-add-right, add-zero, zero-add, mul-le-mul-left, mul-le-mul-right, le-of-mul-le-mul-right, lt-of-not-le, lt-suc-self, le-div-iff-mul-le, div-lt-iff-lt-mul, div-mul-le-self}
+use Prim.Native.Nat.{ℕ, zero, suc, _+_, _*_, _/_, _^_, _≤_, _<_, zero-le}
+use native.Mathlib.Nat.{le-trans, le-of-eq, le-of-lt, lt-of-le-of-lt, lt-of-lt-of-le, lt-irrefl, mul-pos, mul-assoc, mul-right-comm, zero-mul, le-add-right, mul-le-mul-right, le-of-mul-le-mul-right, lt-of-not-le, lt-suc-self, le-div-iff-mul-le, div-lt-iff-lt-mul, div-mul-le-self}
 use native.Mathlib.Omega.{arith}
-use mathlib.Core.Bool.{Bool, true, false, not, cond}
+use mathlib.Core.Bool.{Bool, true, false, cond}
 use lib.Dec.{T, lit<}
 use lib.Pow.{pow-mono, pow-lt}
-use lib.Ieee.{Float, nan, inf, fin, Format, binary64, low, emax, up, down, size, round, neg, add, ofBits, toBits, fits, isNan, le}
-use lib.Ieee.Digits.{size-lt, size-reaches, size-le}
+use lib.Ieee.{Float, nan, inf, fin, binary64, low, size, neg, add, ofBits, toBits, fits, le}
+use lib.Ieee.Digits.{size-lt, size-reaches}
 use lib.Ieee.Exact.{HasValue}
 use lib.Ieee.Scale.{finite}
-use lib.Ieee.Positive.{num, den, den-pos, positive, positive-finite, own-value, value-pos, value→cross, le→cross, through}
+use lib.Ieee.Positive.{num, den, den-pos, positive, positive-finite, value→cross}
 use Rattle.laws.proofs.Value.{sign, bare, value-finite, finite-no-nan}
-use Rattle.laws.proofs.Order.{nought, posPart, negPart, nonneg, le→Le, Rounds, plus, less, add-rounds}
-use Rattle.laws.proofs.Bits.{infBits, unitsOf, bits-value, toBits-finite, toBits-value, toBits-sign, neg-bare, same-bare, bare-fits, bare-finite, bare-sign, units-le, cut, cut-le, cut-neg, ofBits-neg}
-use Rattle.laws.proofs.Mag.{Mag, AtLeast, Under, Over, mag-neg, at-least-round}
+use Rattle.laws.proofs.Relative.{positive-num}
+use Rattle.laws.proofs.Order.{nought, posPart, negPart, nonneg, Rounds, plus, less, add-rounds}
+use Rattle.laws.proofs.Bits.{infBits, unitsOf, bits-value, toBits-finite, toBits-value, toBits-sign, bare-fits, bare-finite, bare-sign, units-le, cut, cut-le, cut-neg, ofBits-neg}
+use Rattle.laws.proofs.Mag.{Mag, AtLeast, Under, Over, mag-neg, mag-value, mag-between, at-least-round}
 
 -- ---- by the order
+nought-size : (n : ℕ) → Mag binary64 n nought
+nought-size n = mag-value false 0 1 (lit< tt) (refl, refl) (le-trans (le-of-eq (zero-mul (2 ^ 1074))) zero-le)
+
+pub mag-below : {n : ℕ} {y : Float} (x : Float) → Mag binary64 n y → T (le nought x) → T (le x y) → Mag binary64 n x
+mag-below {n} x m p h = mag-between p h (nought-size n) m
+
+-- ---- a sum of what is not negative
 num-of : (x : Float) → negPart x ≡ 0 → num x ≡ posPart x
 num-of nan h = refl
 num-of (inf s) h = refl
 num-of (fin false m e) h = refl
 num-of (fin true m e) h = h
 
-part-of : (y : Float) → posPart y ≤ num y
-part-of nan = zero-le
-part-of (inf s) = zero-le
-part-of (fin false m e) = le-of-eq refl
-part-of (fin true m e) = zero-le
-
-pub mag-below : {n : ℕ} {y : Float} (x : Float) → Mag binary64 n y → T (finite x) → T (le nought x) → T (le x y) → Mag binary64 n x
-unfolding Under
-mag-below {n} {y} x m f p h =
-    let z = nonneg x f p in
-    let k : posPart x * den y + negPart y * den x ≤ posPart y * den x + negPart x * den y = le→Le x y f (m .fine) h in
-    let l : posPart x * den y ≤ posPart y * den x = small (posPart x * den y) (negPart y * den x) (posPart y * den x) (negPart x * den y) (ap (λ (a : ℕ). a * den y) z ∙ zero-mul (den y)) k in
-    record {
-      fine = f;
-      under = through (num x) (num y) (2 ^ n) (den x) (den y) (2 ^ 1074) (den-pos y) (rw (num-of x z) (le-trans l (mul-le-mul-right (den x) (part-of y)))) (m .under);
-    }
-  where
-    small : (a b c d : ℕ) → d ≡ 0 → a + b ≤ c + d → a ≤ c
-    small a b c d e h = omega arith
-
-pub at-least-above : {n : ℕ} {y : Float} (x : Float) → AtLeast binary64 n y → T (positive y) → T (positive x) → T (le y x) → AtLeast binary64 n x
-unfolding Over
-at-least-above {n} {y} x m p q h = record {
-  fine = positive-finite x q;
-  over = through (2 ^ n) (num y) (num x) (2 ^ 1074) (den y) (den x) (den-pos y) (m .over) (le→cross y x p q h);
-}
-
--- ---- a sum of what is not negative
 no-minus : (x : Float) → T (positive x) → negPart x ≡ 0
 no-minus nan p = absurd p
 no-minus (inf s) p = absurd p
@@ -87,7 +67,7 @@ at-least-add {n} {x} y m p f h N g = go (add-rounds binary64 x y (positive-finit
         subst (λ (v : Float). AtLeast binary64 n v) (sym z)
         (at-least-round false a c (mul-pos (den-pos x) (den-pos y)) (big a (le-trans part (whole a (posPart x * den y + posPart y * den x) (negPart x * den y + negPart y * den x) none e))) N (subst (λ (v : Float). T (finite v)) z g))
     go (less a e z) =
-        absurd (lt-irrefl 0 (lt-of-lt-of-le (mul-pos (value-pos x (num x) (den x) p (den-pos x) (own-value x p)) (den-pos y)) (le-trans part (zeros a (posPart x * den y + posPart y * den x) (negPart x * den y + negPart y * den x) none e))))
+        absurd (lt-irrefl 0 (lt-of-lt-of-le (mul-pos (positive-num x p) (den-pos y)) (le-trans part (zeros a (posPart x * den y + posPart y * den x) (negPart x * den y + negPart y * den x) none e))))
 
 -- ---- the leading digits
 cutFloat : Float → Float

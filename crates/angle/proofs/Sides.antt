@@ -1,6 +1,6 @@
 -- The magnitudes of two numbers, by size, and scaled: the larger lies between 2^-874 and 2^1000, and the smaller between 0 and it. Assumes nothing.
 use mathlib.Core.Path.{_≡_, refl, sym, ap, _∙_, subst, subst₂}
-use mathlib.Core.List.{List, [], _∷_}
+use mathlib.Core.List.{[], _∷_}
 use mathlib.Core.Bool.{Bool, true, false, not, _&&_, cond}
 use Prim.Native.Nat.{ℕ, _%_, _^_, _≤_}
 use lib.Dec.{T}
@@ -8,11 +8,10 @@ use lib.Ieee.{Float, inf, binary64, ofBits, toBits, mul, fits, isNan, lt, le, eq
 use lib.Ieee.Bits.{ofBits-toBits, ofBits-fits}
 use lib.Ieee.Fits.{and-i, and-l, and-r, mul-fits}
 use lib.Ieee.Scale.{finite}
-use lib.Ieee.Positive.{positive}
 use Rattle.laws.proofs.Value.{sign, bare}
 use Rattle.laws.proofs.Order.{nought, lt→le, le-ordered, le-trans-float, finite-between, mul-mono-pos}
 use Rattle.laws.proofs.Bits.{infBits, ofBits-bare, toBits-sign-bit, toBits-bare, toBits-at-most, bare-fits, bare-no-nan, bare-sign}
-use Rattle.laws.proofs.Interval.{Interval, iv, In, Expr, var, lit, product, eval, passes, Between, bounded, in-literals}
+use Rattle.laws.proofs.Interval.{Interval, iv, Expr, var, lit, product, eval, passes, Between, bounded, in-literals}
 use Rattle.angle.proofs.Ends.{bare-above, not-below, finite-of, positive-of, positive-above, at-most-largest, at-least-smallest}
 use Rattle.angle.specs.Angle.{zero, one, infinity, negative, magnitude, largerOf, smallerOf, sidesOf, times, flat, even, loweredOf, raisedOf, scaledOf}
 use Rattle.angle.specs.Range.{lowest, highest, Ordered, Ranged}

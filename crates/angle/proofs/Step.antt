@@ -1,11 +1,11 @@
 -- The quotient of the sides lies between 0 and 1, so that its nearest 64th does, and the step's index is at most 64. Assumes nothing.
-use mathlib.Core.Path.{_≡_, refl, sym, ap, _∙_, subst}
-use mathlib.Core.List.{List, [], _∷_}
+use mathlib.Core.Path.{_≡_, sym, subst}
+use mathlib.Core.List.{[], _∷_}
 use mathlib.Core.Bool.{_&&_}
-use Prim.Native.Nat.{ℕ, _-_, _≤_, _<_}
+use Prim.Native.Nat.{_≤_, _<_}
 use native.Mathlib.Omega.{arith}
 use lib.Dec.{T, lit<}
-use lib.Ieee.{Float, binary64, ofBits, toBits, add, sub, div, le}
+use lib.Ieee.{binary64, ofBits, toBits, add, div, le}
 use lib.Ieee.Fits.{and-i, add-fits}
 use lib.Ieee.Scale.{finite}
 use lib.Ieee.Positive.{positive}

@@ -1,8 +1,8 @@
 -- What the test `x != x` says of a value: a not-a-number, or a number. Assumes nothing.
-use mathlib.Core.Path.{_≡_, refl, sym, ap, subst}
+use mathlib.Core.Path.{_≡_, sym, ap, subst}
 use mathlib.Core.Bool.{true, false}
 use lib.Dec.{T}
-use lib.Ieee.{Float, nan, ne, isNan}
+use lib.Ieee.{Float, ne, isNan}
 use lib.Ieee.Bits.{is-false}
 use lib.Ieee.Compare.{differs-from-itself}
 use Rattle.machine.proofs.NotANumber.{equals-itself}

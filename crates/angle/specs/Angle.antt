@@ -1,7 +1,7 @@
 -- The angle of the point (x, y), atan2(y, x), from -π to π. The longer of |x| and |y| is a side of a triangle with an angle of at most π/4,
 -- whose tangent is shorter / longer; that angle is a tabled atan(j/64) and a rest by a series, as an unevaluated sum, and is then
 -- turned into its quadrant. The sign of y is put back last. A not-a-number gives the fixed one. Definitions only.
-use Prim.Native.Nat.{ℕ, _-_, _%_}
+use Prim.Native.Nat.{_-_, _%_}
 use mathlib.Core.Bool.{Bool, _||_, cond}
 use lib.Dec.{leb}
 use lib.Ieee.{Float, nan, binary64, ofBits, toBits, neg, add, sub, mul, div, lt, le, eq, isNan}

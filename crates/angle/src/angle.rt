@@ -17,6 +17,7 @@ const A3: f64 = -0.33333333333333254;
 const A5: f64 = 0.19999999976440494;
 
 const A7: f64 = -0.1428469035713278;
+
 // 2^46, whose unit in the last place is 1/64
 const GRID: f64 = 70368744177664.0;
 
@@ -74,7 +75,7 @@ fn smaller(y: f64, x: f64) -> f64
     if y < x { y } else { x }
 }
 
-// Two tests, for a maximum and a minimum of the machine each.
+// Two tests of their own, so that each side is a maximum or a minimum of the machine and no branch.
 fn sides(y: f64, x: f64) -> Triangle
     ensures { λ r. ⌜ r ≡ sidesOf y x ⌝ }
 {
@@ -84,7 +85,7 @@ fn sides(y: f64, x: f64) -> Triangle
     }
 }
 
-// Far up: an infinity is as good as any number beside a finite one, and two are alike.
+// Far up, times 2^-100: an infinity is as good as any number beside a finite one, and two are alike.
 fn lowered(s: Triangle) -> Triangle
     ensures { λ r. ⌜ r ≡ loweredOf s ⌝ }
 {
@@ -106,7 +107,7 @@ fn lowered(s: Triangle) -> Triangle
     }
 }
 
-// Far down: the quotient of two zeros is taken as 0.
+// Far down, times 2^200: the quotient of two zeros is taken as 0.
 fn raised(s: Triangle) -> Triangle
     ensures { λ r. ⌜ r ≡ raisedOf s ⌝ }
 {
@@ -122,7 +123,7 @@ fn raised(s: Triangle) -> Triangle
     }
 }
 
-// Into a range where no step over- or underflows.
+// Into a range where no step over- or underflows: above 2^1000 and below 2^-800 one would.
 fn scaled(s: Triangle) -> Triangle
     ensures { λ r. ⌜ r ≡ scaledOf s ⌝ }
 {

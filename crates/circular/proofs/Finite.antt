@@ -18,7 +18,7 @@ use Rattle.laws.proofs.Order.{nought, le-trans-float, lt→le, not-lt→le, neg
 use Rattle.laws.proofs.Interval.{Interval, iv, In, in-finite, Expr, var, lit, sum, difference, product, share, eval, passes, Between, bounded, in-literals}
 use Rattle.laws.proofs.Bits.{infBits, cut, cut-le, cut-neg, bits-le, toBits-finite, toBits-neg, ofBits-neg, bare-fits, bare-finite, bare-sign, neg-bare}
 use Rattle.circular.specs.declared.reduce.Reduced.{Reduced}
-use Rattle.circular.specs.Operators.{_⊕_, _⊖_, _⊗_}
+use Rattle.laws.specs.Operators.{_⊕_, _⊖_, _⊗_}
 use Rattle.circular.specs.Kernel.{sineKernel, cosineKernel, turned}
 use Rattle.circular.specs.Reduce.{withinTurns, quartersOf, reduceOf, leading, withinTwo, halvesOf, reducePiOf}
 use Rattle.circular.specs.Sin.{sinOf}

@@ -18,7 +18,7 @@ use Rattle.laws.proofs.Order.{nought, not-lt→le}
 use Rattle.laws.proofs.Bits.{toBits-back, whole-pattern, bare-fits}
 use Rattle.laws.proofs.Power.{unique}
 use Rattle.circular.specs.declared.reduce.Reduced.{Reduced}
-use Rattle.circular.specs.Operators.{_⊕_, _⊖_, _⊗_}
+use Rattle.laws.specs.Operators.{_⊕_, _⊖_, _⊗_}
 use Rattle.circular.specs.Kernel.{sineKernel, cosineKernel, turned}
 use Rattle.circular.specs.Reduce.{reduceOf, leading, withinTwo, halvesOf, reducePiOf}
 use Rattle.circular.specs.Sin.{sinOf}

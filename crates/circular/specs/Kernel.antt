@@ -4,7 +4,7 @@ use Prim.Native.Nat.{ℕ, _/_, _%_}
 use mathlib.Core.Bool.{cond}
 use lib.Dec.{eqb}
 use lib.Ieee.{Float, binary64, ofBits}
-use Rattle.circular.specs.Operators.{_⊕_, _⊖_, _⊗_}
+use Rattle.laws.specs.Operators.{_⊕_, _⊖_, _⊗_}
 
 -- r = s2 + s3 z + .. + s6 z⁴ with z = hi², and hi + s1 hi³ + r hi⁵ + lo (1 - z / 2)
 unfoldable pub sineKernel : Float → Float → Float

@@ -1,4 +1,3 @@
-pub mod Operators
 pub mod Kernel
 pub mod Reduce
 pub mod Sin

@@ -1,13 +1,13 @@
 -- An angle a without a minus sign as hi + lo and a number of quarter turns, counted to 4. Definitions only.
 use Prim.Native.Nat.{_-_, _%_}
 use mathlib.Core.Bool.{cond}
-use lib.Ieee.{Float, binary64, ofBits, toBits, lt}
-use Rattle.circular.specs.Operators.{_⊕_, _⊖_, _⊗_, _⊘_}
+use lib.Ieee.{Float, binary64, ofBits, toBits, rem, lt}
+use Rattle.laws.specs.Operators.{_⊕_, _⊖_, _⊗_}
 use Rattle.circular.specs.declared.reduce.Reduced.{Reduced}
 
 -- above 65536 the rest by 182.212373908208, 29 turns rounded
 unfoldable pub withinTurns : Float → Float
-withinTurns a = cond (lt (ofBits binary64 0x40F0000000000000) a) (a ⊘ ofBits binary64 0x4066C6CBC45DC8DE) a
+withinTurns a = cond (lt (ofBits binary64 0x40F0000000000000) a) (rem binary64 a (ofBits binary64 0x4066C6CBC45DC8DE)) a
 
 -- The nearest whole number k of quarter turns is what a·(2/π) adds to 2^52, whose unit is 1. π/2 is p1 + p2 + p3, of 36, 36 and 53 digits:
 -- k p1 and k p2 are exact.
@@ -37,7 +37,7 @@ leading r = let b = toBits binary64 r in ofBits binary64 (b - b % 134217728)
 
 -- above 2^20 the rest by 2
 unfoldable pub withinTwo : Float → Float
-withinTwo a = cond (lt (ofBits binary64 0x4130000000000000) a) (a ⊘ ofBits binary64 0x4000000000000000) a
+withinTwo a = cond (lt (ofBits binary64 0x4130000000000000) a) (rem binary64 a (ofBits binary64 0x4000000000000000)) a
 
 -- π a: the nearest whole number of halves is what 2 a adds to 2^52, and what is left of a times π in two parts, 3.1415926814079285 of 26 digits
 -- and -2.7818135228334233e-8

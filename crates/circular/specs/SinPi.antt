@@ -2,7 +2,7 @@
 use Prim.Native.Nat.{_+_}
 use mathlib.Core.Bool.{false, cond}
 use lib.Ieee.{Float, nan, inf, fin, binary64, ofBits}
-use Rattle.circular.specs.Operators.{_⊖_}
+use Rattle.laws.specs.Operators.{_⊖_}
 use Rattle.circular.specs.Kernel.{sineKernel, cosineKernel, turned}
 use Rattle.circular.specs.Reduce.{reducePiOf}
 

@@ -2,7 +2,7 @@
 use mathlib.Core.Bool.{false, cond, _&&_}
 use Prim.Native.Nat.{ℕ, _-_, _/_, _%_}
 use lib.Ieee.{Float, nan, inf, binary64, ofBits, toBits, neg, lt, le, ne}
-use Rattle.exponential.specs.Operators.{_⊕_, _⊖_, _⊗_}
+use Rattle.laws.specs.Operators.{_⊕_, _⊖_, _⊗_}
 use Rattle.exponential_tables.specs.Tables.{coarsePower, finePower}
 use Rattle.exponential_tables.specs.declared.Pair.{Pair}
 

@@ -1,4 +1,3 @@
-pub mod Operators
 pub mod Exp
 pub mod Sinh
 pub mod Cosh

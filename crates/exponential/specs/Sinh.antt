@@ -1,7 +1,7 @@
 -- The hyperbolic sine of every x. Definitions only.
 use mathlib.Core.Bool.{false, cond}
 use lib.Ieee.{Float, nan, inf, fin, binary64, ofBits, neg, lt, le}
-use Rattle.exponential.specs.Operators.{_⊕_, _⊖_, _⊗_, _⊘_}
+use Rattle.laws.specs.Operators.{_⊕_, _⊖_, _⊗_, _⊘_}
 use Rattle.exponential.specs.Exp.{limit, half, expPair, halfExpFar}
 use Rattle.exponential_tables.specs.declared.Pair.{Pair}
 

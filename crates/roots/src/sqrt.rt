@@ -20,9 +20,10 @@ fn above(n: u64, s: u64) -> bool
     h * h + (h * l + (l * l + s) / 0x8000000) / 0x2000000 < n
 }
 
+// An estimate within 3 of the nearest whole root is raised to it or stays above it, in 3 turns at most.
 fn raised(n: u64, estimate: u64) -> u64
-    requires { ⌜ (0 < n) × (n < 2 ^ 54) × (estimate < 2 ^ 54) ⌝ }
-    ensures { λ r. ⌜ (nearestRoot 53 (n * 2 ^ 52) ≤ r) × (r < 2 ^ 54) ⌝ }
+    requires { ⌜ (0 < n) × (n < 2 ^ 54) × (nearestRoot 53 (n * 2 ^ 52) ≤ estimate + 3) × (estimate ≤ nearestRoot 53 (n * 2 ^ 52) + 3) ⌝ }
+    ensures { λ r. ⌜ (nearestRoot 53 (n * 2 ^ 52) ≤ r) × (r ≤ nearestRoot 53 (n * 2 ^ 52) + 3) ⌝ }
 {
     let mut s = estimate;
     while above(n, s) {
@@ -31,8 +32,9 @@ fn raised(n: u64, estimate: u64) -> u64
     s
 }
 
+// From there it is lowered to the nearest whole root, in 3 turns at most.
 fn lowered(n: u64, estimate: u64) -> u64
-    requires { ⌜ (0 < n) × (n < 2 ^ 54) × (estimate < 2 ^ 54) × (nearestRoot 53 (n * 2 ^ 52) ≤ estimate) ⌝ }
+    requires { ⌜ (0 < n) × (n < 2 ^ 54) × (nearestRoot 53 (n * 2 ^ 52) ≤ estimate) × (estimate ≤ nearestRoot 53 (n * 2 ^ 52) + 3) ⌝ }
     ensures { λ r. ⌜ r ≡ nearestRoot 53 (n * 2 ^ 52) ⌝ }
 {
     let mut s = estimate;
@@ -42,9 +44,9 @@ fn lowered(n: u64, estimate: u64) -> u64
     s
 }
 
-// The f64 steps: twice the root lies in [2, 4), where one pattern more is one unit of the root's 53 digits more.
+// The f64 steps, to 3 units: twice the root lies near [2, 4), where one pattern more is one unit of the root's 53 digits more.
 fn estimate(u: u64) -> u64
-    ensures { λ r. ⌜ r < 2 ^ 54 ⌝ }
+    ensures { λ r. ⌜ (nearestRoot 53 (scaled (folded u) * 2 ^ 52) ≤ r + 3) × (r ≤ nearestRoot 53 (scaled (folded u) * 2 ^ 52) + 3) ⌝ }
 {
     f64::to_bits(twice_root(u)) - 0x3FF0000000000000
 }

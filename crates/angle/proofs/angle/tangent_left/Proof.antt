@@ -1,5 +1,5 @@
 -- `angle::angle::tangent_left` meets its contract: the same steps around three cuts to the leading digits; what is cut is finite. Assumes nothing.
-use mathlib.Core.Path.{refl, sym, subst}
+use mathlib.Core.Path.{sym, subst}
 use Rattle.laws.proofs.Value.{finite-no-nan}
 use Rattle.angle.proofs.Step.{long-finite}
 use Rattle.angle.proofs.Arc.{Operands, operands, unit-between, value-size, denominator-size}

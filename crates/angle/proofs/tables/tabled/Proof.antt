@@ -262,7 +262,7 @@ returns-64 c = rw (c .match .keys64)
 
 returns-65 : tie.Need-returns-65
 unfolding tabledOf atanHigh atanLow
-returns-65 c = rw (last 64 (c .before .args .j) (c .match .rest) (c .before .pre))
+returns-65 c = rw (last 64 (c .before .args .j) (c .before .pre) (c .match .rest))
 
 pub tabled-spec : {M : Type 1} → statement M
 tabled-spec =

@@ -1,16 +1,16 @@
--- `roots::sqrt::lowered` meets its contract: each turn brings s nearer to the nearest whole root, and never below it. Assumes nothing.
+-- `roots::sqrt::lowered` meets its contract: each turn brings s nearer to the nearest whole root, and never below it. The measure, at most 3 at first, is how far it has to go. Assumes nothing.
 use mathlib.Core.Path.{sym, _∙_}
-use Prim.Native.Nat.{ℕ, _-_, _*_, _^_, _<_, _≤_}
+use Prim.Native.Nat.{ℕ, _+_, _-_, _*_, _^_, _<_, _≤_}
 use native.Mathlib.Nat.{le-antisymm}
 use native.Mathlib.Omega.{arith}
 use borrow.Author.Tests.{ltb-true, ltb-false, not-true, not-false}
 use Rattle.roots.specs.Sqrt.{nearestRoot}
-use Rattle.roots.proofs.WholeRoot.{above-below, not-above, nearest-pos, scaled-nearest}
+use Rattle.roots.proofs.WholeRoot.{above-below, not-above, nearest-lt, nearest-pos, scaled-nearest}
 use Rattle.roots.proofs.sqrt.lowered.Statement.{statement}
 use Rattle.roots.proofs.sqrt.lowered.Tie as tie
 
 abbrev Inv-loop : tie.InvT-loop
-Inv-loop n estimate s₀ s = (0 < nearestRoot 53 (n * 2 ^ 52)) × (nearestRoot 53 (n * 2 ^ 52) ≤ s) × (s < 2 ^ 54)
+Inv-loop n estimate s₀ s = (0 < nearestRoot 53 (n * 2 ^ 52)) × (nearestRoot 53 (n * 2 ^ 52) ≤ s) × (s ≤ nearestRoot 53 (n * 2 ^ 52) + 3)
 
 abbrev μ-loop : tie.MeasureT-loop
 μ-loop n estimate s₀ s = s - nearestRoot 53 (n * 2 ^ 52)
@@ -19,13 +19,16 @@ loop-holds : tie.Need-loop-holds Inv-loop μ-loop
 loop-holds c =
     let n = c .args .n in
     let p = c .pre in
-    (nearest-pos (n * 2 ^ 52) (nearestRoot 53 (n * 2 ^ 52)) (scaled-nearest n (p .0) (p .1)) (omega arith), p .3, p .2)
+    (nearest-pos (n * 2 ^ 52) (nearestRoot 53 (n * 2 ^ 52)) (scaled-nearest n (p .0) (p .1)) (omega arith), p .2, p .3)
 
 sub-above : tie.Need-sub-above Inv-loop μ-loop
 sub-above c = omega arith
 
 above-requires : tie.Need-above-requires Inv-loop μ-loop
-above-requires c κs = omega arith
+above-requires c κs =
+    let n = c .before .args .n in
+    let p = c .before .pre in
+    omega (arith, nearest-lt (n * 2 ^ 52) (nearestRoot 53 (n * 2 ^ 52)) (scaled-nearest n (p .0) (p .1)) (omega arith))
 
 -- a turn is taken above the nearest root only
 higher : (c : tie.Then1 Inv-loop μ-loop) → nearestRoot 53 (c .before .before .before .args .n * 2 ^ 52) ≤ c .before .before .loop .s - 1

@@ -1,5 +1,6 @@
 #!/usr/bin/env python3
-"""digest.py all | ROUTINE..: the digest of what each routine's definition says, without comments and layout."""
+"""digest.py all | ROUTINE..: the digest of what each routine's definition says, without comments and layout: its own file of specs/ and every file of specs/ that
+it stands on."""
 import hashlib
 import os
 import re
@@ -7,31 +8,35 @@ import sys
 
 TOP = os.path.dirname(os.path.dirname(os.path.dirname(os.path.abspath(__file__))))
 
-# the files that a routine's definition is made of: what they say, without comments and layout, is what the second half was drawn for
 DEFINITIONS = {
-    "sqrt": ["roots/Sqrt"],
-    "hypot": ["roots/Hypot", "roots/Seed", "roots/Tables"],
-    "exp": ["exponential/Exp", "exponential/Tables"],
-    "sinh": ["exponential/Sinh", "exponential/Exp", "exponential/Tables"],
-    "cosh": ["exponential/Cosh", "exponential/Exp", "exponential/Tables"],
-    "ln": ["logarithm/Ln", "logarithm/Tables"],
-    "sin": ["circular/Sin", "circular/Kernel", "circular/Reduce"],
-    "cos": ["circular/Cos", "circular/Kernel", "circular/Reduce"],
-    "sin_pi": ["circular/SinPi", "circular/Kernel", "circular/Reduce"],
-    "cos_pi": ["circular/CosPi", "circular/Kernel", "circular/Reduce"],
-    "angle": ["angle/Angle", "angle/Tables"],
-    "round": ["rounding/Round"],
+    "sqrt": ("roots", "Sqrt"),
+    "hypot": ("roots", "Hypot"),
+    "exp": ("exponential", "Exp"),
+    "ln": ("logarithm", "Ln"),
+    "sin": ("circular", "Sin"),
+    "cos": ("circular", "Cos"),
+    "angle": ("angle", "Angle"),
+    "sinh": ("exponential", "Sinh"),
+    "cosh": ("exponential", "Cosh"),
+    "sin_pi": ("circular", "SinPi"),
+    "cos_pi": ("circular", "CosPi"),
+    "round": ("rounding", "Round"),
 }
 
 
+def says(crate, module, seen):
+    """The text of the module and of those it uses, each once, the used ones first."""
+    if (crate, module) in seen:
+        return ""
+    seen.add((crate, module))
+    path = os.path.join(TOP, "crates", crate, "specs", module + ".antt")
+    text = re.sub(r"--[^\n]*", "", open(path, encoding="utf-8").read())
+    below = re.findall(r"^use Rattle·(\w+?)(?:·specs\.specs|\.specs)\.([A-Z]\w*)", text, flags=re.M)
+    return "".join(says(c, m, seen) for c, m in below) + " ".join(text.split()) + "\n"
+
+
 def digest(routine):
-    h = hashlib.sha256()
-    for name in DEFINITIONS[routine]:
-        crate, module = name.split("/")
-        text = open(os.path.join(TOP, "crates", crate, "specs", module + ".antt"), encoding="utf-8").read()
-        text = re.sub(r"--[^\n]*", "", text)
-        h.update(" ".join(text.split()).encode("utf-8"))
-    return h.hexdigest()[:32]
+    return hashlib.sha256(says(*DEFINITIONS[routine], set()).encode("utf-8")).hexdigest()[:32]
 
 
 if __name__ == "__main__":

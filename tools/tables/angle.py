@@ -108,7 +108,7 @@ ANSWERS = [answer(NAMES[j], f"rw (c .match .keys{j + 1})") for j in range(STEPS)
 ANSWERS.append(answer(NAMES[STEPS], f"rw (last {STEPS} (c .before .args .j) (c .before .pre) (c .match .rest))"))
 
 PROOF = f"""-- `angle::tables::tabled` meets its contract: an arm for each entry. Written by tools/tables/angle.py. Assumes nothing.
-use Rattle.angle.proofs.Arms.{{last}}
+use Rattle.laws.proofs.Arms.{{last}}
 use Rattle.angle.specs.Tables.{{tabledOf, atanHigh, atanLow}}
 use Rattle.angle.proofs.tables.tabled.Statement.{{statement}}
 use Rattle.angle.proofs.tables.tabled.Tie as tie

@@ -1,9 +1,9 @@
 #!/usr/bin/env python3
-"""The tables of crate exponential, by mpmath at 400 bits: 177 powers e^(8(i-88)) and 256 powers e^(j/32 - 4 - 1/64), each as its
+"""The tables of crate exponential_tables, which exponential stands on, by mpmath at 400 bits: 177 powers e^(8(i-88)) and 256 powers e^(j/32 - 4 - 1/64), each as its
 leading 26 digits, cut off, and the nearest f64 of the rest, which is therefore at least 0.
 
     exponential.py           write src/tables.rt, specs/Tables.antt and the proofs that they agree, from one list
-    exponential.py --check   compare these files with the list, and measure every polynomial of the crate against mpmath
+    exponential.py --check   compare these files with the list, and measure every polynomial of crate exponential against mpmath
 
 A table is a match, which the compiler turns into one constant in memory. An indexed array would be stored anew in each call.
 """
@@ -16,7 +16,7 @@ import sys
 import mpmath
 
 mpmath.mp.prec = 400
-CRATE = os.path.join(os.path.dirname(os.path.abspath(__file__)), '..', '..', 'crates', 'exponential')
+CRATES = os.path.join(os.path.dirname(os.path.abspath(__file__)), '..', '..', 'crates')
 DIGITS = 26
 
 
@@ -55,8 +55,8 @@ def rattle():
            '// Written by tools/tables/exponential.py, with specs/Tables.antt and the proofs that they agree.',
            'ghost use mathlib.Core.Path.{_≡_};',
            'ghost use Prim.Native.Nat.{_<_};',
-           'ghost use Rattle.exponential.specs.Tables.{%s};' % ', '.join(name + 'Power' for name, _, _, _ in TABLES),
-           'use crate::exp::Pair;']
+           'ghost use Rattle.exponential_tables.specs.Tables.{%s};' % ', '.join(name + 'Power' for name, _, _, _ in TABLES),
+           'use crate::Pair;']
     for name, what, index, entries in TABLES:
         out += ['', '// ' + what, 'pub fn %s(%s: usize) -> Pair' % (name, index), '    requires { ⌜ %s < %d ⌝ }' % (index, len(entries)),
                 '    ensures { λ r. ⌜ r ≡ %sPower %s ⌝ }' % (name, index), '{', '    match %s {' % index]
@@ -74,7 +74,7 @@ def definitions():
            'use Prim.Native.Nat.{ℕ}',
            'use lib.ListN.{getD}',
            'use lib.Ieee.{Float, nan, binary64, ofBits}',
-           'use Rattle.exponential.specs.declared.exp.Pair.{Pair}']
+           'use Rattle.exponential_tables.specs.declared.Pair.{Pair}']
     for name, what, index, entries in TABLES:
         for part, column in (('High', [h for h, _ in entries]), ('Low', [l for _, l in entries])):
             out += ['', '-- %s, the %s' % (what, 'leading 26 digits' if part == 'High' else 'rest'), 'unfoldable pub %s%s : List Float' % (name, part), '%s%s =' % (name, part)]
@@ -88,12 +88,12 @@ def definitions():
 def proof(name, index, entries):
     count = len(entries)
     needs = ['returns'] + ['returns-%d' % k for k in range(2, count + 1)]
-    out = ['-- `exponential::tables::%s` meets its contract, at each of its %d indices. Assumes nothing.' % (name, count),
+    out = ['-- `exponential_tables::tables::%s` meets its contract, at each of its %d indices. Assumes nothing.' % (name, count),
            '-- Written by tools/tables/exponential.py.',
-           'use Rattle.exponential.specs.Tables.{%sHigh, %sLow, %sPower}' % (name, name, name),
-           'use Rattle.exponential.proofs.Arms.{last}',
-           'use Rattle.exponential.proofs.tables.%s.Statement.{statement}' % name,
-           'use Rattle.exponential.proofs.tables.%s.Tie as tie' % name]
+           'use Rattle.exponential_tables.specs.Tables.{%sHigh, %sLow, %sPower}' % (name, name, name),
+           'use Rattle.laws.proofs.Arms.{last}',
+           'use Rattle.exponential_tables.proofs.tables.%s.Statement.{statement}' % name,
+           'use Rattle.exponential_tables.proofs.tables.%s.Tie as tie' % name]
     for k, need in enumerate(needs, 1):
         fact = 'c .match .keys%d' % k if k < count else 'last %d (c .before .args .%s) (c .before .pre) (c .match .rest)' % (count - 1, index)
         out += ['', '%s : tie.Need-%s' % (need, need), 'unfolding %sHigh %sLow %sPower' % (name, name, name), '%s c = rw (%s)' % (need, fact)]
@@ -110,7 +110,7 @@ def files():
 
 def coefficients(file, name):
     """The bits in a definition of specs/, in the order of the text."""
-    text = open(os.path.join(CRATE, 'specs', file), encoding='utf-8').read()
+    text = open(os.path.join(CRATES, 'exponential', 'specs', file), encoding='utf-8').read()
     body = re.search(r'^%s [^\n]*=\n(.*?)(?:\n\n|\Z)' % name, text, re.S | re.M).group(1)
     return [mpmath.mpf(of_bits(int(h, 16))) for h in re.findall(r'c\d+ = ofBits binary64 0x([0-9A-F]{16})', body)]
 
@@ -142,7 +142,7 @@ def bare(text):
 def check():
     good = True
     for path, text in files():
-        same = bare(open(os.path.join(CRATE, path), encoding='utf-8').read()) == bare(text)
+        same = bare(open(os.path.join(CRATES, 'exponential_tables', path), encoding='utf-8').read()) == bare(text)
         print(path, 'agrees' if same else 'DIFFERS')
         good = good and same
     for _, _, _, entries in TABLES:
@@ -163,5 +163,5 @@ if __name__ == '__main__':
     if sys.argv[1:]:
         sys.exit(__doc__)
     for path, text in files():
-        os.makedirs(os.path.dirname(os.path.join(CRATE, path)), exist_ok=True)
-        open(os.path.join(CRATE, path), 'w', encoding='utf-8').write(text)
+        os.makedirs(os.path.dirname(os.path.join(CRATES, 'exponential_tables', path)), exist_ok=True)
+        open(os.path.join(CRATES, 'exponential_tables', path), 'w', encoding='utf-8').write(text)

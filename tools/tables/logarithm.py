@@ -80,7 +80,7 @@ def proof(tables):
     needs = ['returns'] + ['returns-%d' % k for k in range(2, STEPS + 1)]
     out = ['-- `logarithm::tables::row_of` meets its contract, at each of its %d rows. Written by tools/tables/logarithm.py. Assumes nothing.' % STEPS,
            'use lib.Ieee.{ofBits, neg}', 'use Rattle.logarithm.specs.Tables.{%s}' % columns.replace(' ', ', '),
-           'use Rattle.logarithm.specs.Rows.{rowOf}', 'use Rattle.logarithm.proofs.Arms.{last}',
+           'use Rattle.logarithm.specs.Rows.{rowOf}', 'use Rattle.laws.proofs.Arms.{last}',
            'use Rattle.logarithm.proofs.tables.row_of.Statement.{statement}', 'use Rattle.logarithm.proofs.tables.row_of.Tie as tie']
     for k, (need, row) in enumerate(zip(needs, zip(*tables)), 1):
         # the source has a minus sign where the definition has the sign's bit

@@ -1,6 +1,5 @@
 pub mod AngleFacts
 pub mod Arc
-pub mod Arms
 pub mod Ends
 pub mod Literals
 pub mod Magnitude

@@ -1,32 +1,30 @@
 -- The sign of x is taken off and put back: sinh is odd and cosh is even, not-a-numbers, infinities and both zeros included. Assumes nothing.
-use mathlib.Core.Path.{_≡_, refl, sym, ap, _∙_}
-use mathlib.Core.Bool.{true, false, cond}
-use Prim.Native.Nat.{ℕ, _%_, _≤_, _<_}
+use mathlib.Core.Path.{_≡_, refl, sym, ap, _∙_, subst}
+use mathlib.Core.Bool.{Bool, true, false, not, cond}
+use Prim.Native.Nat.{_%_, _≤_, _<_}
 use borrow.Author.Tests.{le-leb, lt-leb}
-use lib.Dec.{T, leb}
-use lib.Ieee.{Float, nan, inf, fin, binary64, neg, lt, le, ne, eq, ofBits, toBits, fits, isNan}
-use lib.Ieee.Bits.{ofBits-toBits}
+use lib.Dec.{T}
+use lib.Ieee.{Float, nan, inf, fin, binary64, neg, lt, le, ne, eq, ofBits, toBits, fits, isNan, nanBits}
+use lib.Ieee.Bits.{ofBits-toBits, nanBits-is}
+use Rattle.laws.proofs.Sign.{neg-neg}
 use Rattle.laws.proofs.Value.{sign, bare}
-use Rattle.laws.proofs.Bits.{ofBits-bare, toBits-sign-bit}
+use Rattle.laws.proofs.Bits.{ofBits-bare, toBits-sign-bit, bare-no-nan}
 use Rattle.exponential.specs.Exp.{limit, halfExpFar}
 use Rattle.exponential.specs.Sinh.{sinhMagnitude, sinhOf}
 use Rattle.exponential.specs.Cosh.{coshMagnitude, coshOf}
 
--- the magnitude by the bits
-pub magnitude-by-bits : (x : Float) (b : ℕ) → T (fits binary64 x) → b ≡ toBits binary64 x → ofBits binary64 (b % 0x8000000000000000) ≡ bare x
-magnitude-by-bits x b F e = ap (λ (n : ℕ). ofBits binary64 (n % 0x8000000000000000)) e ∙ ofBits-bare (toBits binary64 x) ∙ ap bare (ofBits-toBits binary64 x F)
+-- the magnitude and the sign by the bits
+pub magnitude-by-bits : (x : Float) → T (fits binary64 x) → ofBits binary64 (toBits binary64 x % 0x8000000000000000) ≡ bare x
+magnitude-by-bits x F = ofBits-bare (toBits binary64 x) ∙ ap bare (ofBits-toBits binary64 x F)
 
-sign-test : (x : Float) → T (fits binary64 x) → sign x ≡ leb 0x8000000000000000 (toBits binary64 x)
-unfolding toBits isNan
-sign-test nan F = refl
-sign-test (inf s) F = toBits-sign-bit (inf s) F tt
-sign-test (fin s m e) F = toBits-sign-bit (fin s m e) F tt
+pub magnitude-no-nan : (x : Float) → T (fits binary64 x) → T (not (isNan x)) → T (not (nanBits binary64 (toBits binary64 x % 0x8000000000000000)))
+magnitude-no-nan x F n = subst (λ (b : Bool). T (not b)) (sym (nanBits-is binary64 (toBits binary64 x % 0x8000000000000000) ∙ ap isNan (magnitude-by-bits x F))) (bare-no-nan x n)
 
-pub sign-set : (x : Float) (b : ℕ) → T (fits binary64 x) → b ≡ toBits binary64 x → 0x8000000000000000 ≤ b → sign x ≡ true
-sign-set x b F e h = sign-test x F ∙ ap (leb 0x8000000000000000) (sym e) ∙ le-leb 0x8000000000000000 b h
+pub sign-set : (x : Float) → T (fits binary64 x) → T (not (isNan x)) → 0x8000000000000000 ≤ toBits binary64 x → sign x ≡ true
+sign-set x F n h = toBits-sign-bit x F n ∙ le-leb 0x8000000000000000 (toBits binary64 x) h
 
-pub sign-clear : (x : Float) (b : ℕ) → T (fits binary64 x) → b ≡ toBits binary64 x → b < 0x8000000000000000 → sign x ≡ false
-sign-clear x b F e h = sign-test x F ∙ ap (leb 0x8000000000000000) (sym e) ∙ lt-leb 0x8000000000000000 b h
+pub sign-clear : (x : Float) → T (fits binary64 x) → T (not (isNan x)) → toBits binary64 x < 0x8000000000000000 → sign x ≡ false
+sign-clear x F n h = toBits-sign-bit x F n ∙ lt-leb 0x8000000000000000 (toBits binary64 x) h
 
 sinh-nan : sinhMagnitude nan ≡ nan
 unfolding sinhMagnitude halfExpFar lt le ne limit eq
@@ -56,14 +54,6 @@ unfolding coshOf
 cosh-by-magnitude nan = sym cosh-nan
 cosh-by-magnitude (inf s) = sym cosh-infinity
 cosh-by-magnitude (fin s m e) = refl
-
-neg-neg : (x : Float) → neg (neg x) ≡ x
-unfolding neg
-neg-neg nan = refl
-neg-neg (inf false) = refl
-neg-neg (inf true) = refl
-neg-neg (fin false m e) = refl
-neg-neg (fin true m e) = refl
 
 pub sinh-odd : (x : Float) → sinhOf (neg x) ≡ neg (sinhOf x)
 unfolding sinhOf neg

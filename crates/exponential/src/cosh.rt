@@ -1,13 +1,12 @@
 // The hyperbolic cosine: an even polynomial below 1, (e^a + e^-a) / 2 by exp's pair up to 705, half of e^a beyond; the sign is taken off.
 // DLMF 4.28.2. Promised: coshOf for every x; even; finite up to 705 in magnitude (proofs/CoshFacts.antt).
-// Measured: 0.753 units in the last place up to 705, 1.1 beyond.
+// Measured: 0.78 units in the last place up to 705, 1.1 beyond.
 ghost use mathlib.Core.Path.{_≡_};
 ghost use Rattle.exponential.specs.Cosh.{coshSmall, halfSum, coshMagnitude, coshOf};
 use crate::exp::exp_pair;
 use crate::exp::half_exp_far;
 use exponential_tables::Pair;
-use machine::bits::of_pattern;
-use machine::bits::pattern;
+use machine::constants::not_a_number;
 
 const C4: f64 = 0.041666666666666644;
 
@@ -24,7 +23,10 @@ const C14: f64 = 1.1614988062048244e-11;
 pub fn cosh(x: f64) -> f64
     ensures { λ r. ⌜ r ≡ coshOf x ⌝ }
 {
-    cosh_magnitude(of_pattern(pattern(x) % 0x8000000000000000))
+    if x != x {
+        return not_a_number();
+    }
+    cosh_magnitude(f64::from_bits(f64::to_bits(x) % 0x8000000000000000))
 }
 
 fn cosh_magnitude(a: f64) -> f64

@@ -16,15 +16,15 @@ const SHIFT: f64 = 211106232532992.0;
 // the bits of SHIFT, less 32 * 708
 const FIRST: u64 = 0x42E7FFFFFFFFA780;
 
-// 2^-500, 2^500 and 2^499: the scales of a square that is large
+// 2^-500, which keeps a large square in range
 const SHRINK: f64 = 3.054936363499605e-151;
-
+// 2^500, twice the way back from SHRINK
 const STRETCH: f64 = 3.273390607896142e150;
-
+// 2^499, the second half of that way for half of the square
 const HALF_STRETCH: f64 = 1.636695303948071e150;
-// 2^520 and 2^-520: those of a square that is small
+// 2^520, which keeps a small square in range
 const RAISE: f64 = 3.432398830065305e156;
-
+// 2^-520, twice the way back from RAISE
 const LOWER: f64 = 2.913414348125081e-157;
 
 pub fn exp(x: f64) -> f64

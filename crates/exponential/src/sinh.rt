@@ -6,8 +6,7 @@ ghost use Rattle.exponential.specs.Sinh.{sinhSmall, halfDifference, sinh
 use crate::exp::exp_pair;
 use crate::exp::half_exp_far;
 use exponential_tables::Pair;
-use machine::bits::of_pattern;
-use machine::bits::pattern;
+use machine::constants::not_a_number;
 
 const C3: f64 = 0.16666666666666666;
 
@@ -26,8 +25,11 @@ const C15: f64 = 7.71610008115315e-13;
 pub fn sinh(x: f64) -> f64
     ensures { λ r. ⌜ r ≡ sinhOf x ⌝ }
 {
-    let b = pattern(x);
-    let r = sinh_magnitude(of_pattern(b % 0x8000000000000000));
+    if x != x {
+        return not_a_number();
+    }
+    let b = f64::to_bits(x);
+    let r = sinh_magnitude(f64::from_bits(b % 0x8000000000000000));
     if b >= 0x8000000000000000 { -r } else { r }
 }
 

@@ -1,2 +1,1 @@
 -- The theorems, by topic.
-pub mod Arms

@@ -1,4 +1,5 @@
 -- The theorems, by topic.
+pub mod Arms
 pub mod Bits
 pub mod Bound
 pub mod First

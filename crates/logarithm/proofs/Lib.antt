@@ -1,5 +1,4 @@
 -- The width of a subnormal, the patterns that the code reads, what `lnOf` is by cases, the tables' columns, and what follows of `lnOf`.
-pub mod Arms
 pub mod Width
 pub mod Cases
 pub mod Column

@@ -43,9 +43,10 @@ doubled-range u =
     let s = scaled-range (folded u) (omega arith) in
     let n = scaled (folded u) in
     let lo : 2 * 2 ^ 52 ≤ 4 * n * 1 = omega (arith, s .0) in
-    let hi : 4 * n * 1 ≤ 16 * 2 ^ 52 = omega (arith, s .1) in
-    (from-squares (den d) (num d) (under (num d * num d) (den d * den d) (rat-ge 2 1 (pow-pos 52) c lo)),
-     from-squares (num d) (5 * den d) (le-trans (over (num d * num d) (den d * den d) (rat-le 16 1 (pow-pos 52) c hi)) (le-of-eq (simp (mul-assoc, mul-comm, mul-left-comm) (omega arith)))))
+    let hi : 4 * n * 1 ≤ 16 * 2 ^ 52 = omega (arith, s .1) in (
+      from-squares (den d) (num d) (under (num d * num d) (den d * den d) (rat-ge 2 1 (pow-pos 52) c lo)),
+      from-squares (num d) (5 * den d) (le-trans (over (num d * num d) (den d * den d) (rat-le 16 1 (pow-pos 52) c hi)) (le-of-eq (simp (mul-assoc, mul-comm, mul-left-comm) (omega arith)))),
+    )
   where
     under : (a b : ℕ) → (2 ^ 60 - 513) * 2 * b ≤ a * (2 ^ 60 * 1) → b ≤ a
     under a b h = omega arith

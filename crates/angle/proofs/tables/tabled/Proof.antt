@@ -1,5 +1,5 @@
 -- `angle::tables::tabled` meets its contract: an arm for each entry. Written by tools/tables/angle.py. Assumes nothing.
-use Rattle.angle.proofs.Arms.{last}
+use Rattle.laws.proofs.Arms.{last}
 use Rattle.angle.specs.Tables.{tabledOf, atanHigh, atanLow}
 use Rattle.angle.proofs.tables.tabled.Statement.{statement}
 use Rattle.angle.proofs.tables.tabled.Tie as tie

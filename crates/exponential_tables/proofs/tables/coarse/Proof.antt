@@ -1,7 +1,7 @@
 -- `exponential_tables::tables::coarse` meets its contract, at each of its 177 indices. Assumes nothing.
 -- Written by tools/tables/exponential.py.
 use Rattle.exponential_tables.specs.Tables.{coarseHigh, coarseLow, coarsePower}
-use Rattle.exponential_tables.proofs.Arms.{last}
+use Rattle.laws.proofs.Arms.{last}
 use Rattle.exponential_tables.proofs.tables.coarse.Statement.{statement}
 use Rattle.exponential_tables.proofs.tables.coarse.Tie as tie
 

@@ -1,7 +1,7 @@
 -- `exponential_tables::tables::fine` meets its contract, at each of its 256 indices. Assumes nothing.
 -- Written by tools/tables/exponential.py.
 use Rattle.exponential_tables.specs.Tables.{fineHigh, fineLow, finePower}
-use Rattle.exponential_tables.proofs.Arms.{last}
+use Rattle.laws.proofs.Arms.{last}
 use Rattle.exponential_tables.proofs.tables.fine.Statement.{statement}
 use Rattle.exponential_tables.proofs.tables.fine.Tie as tie
 

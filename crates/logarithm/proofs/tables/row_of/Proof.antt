@@ -2,7 +2,7 @@
 use lib.Ieee.{ofBits, neg}
 use Rattle.logarithm.specs.Tables.{reciprocals, excesses, logarithmsHigh, logarithmsLow}
 use Rattle.logarithm.specs.Rows.{rowOf}
-use Rattle.logarithm.proofs.Arms.{last}
+use Rattle.laws.proofs.Arms.{last}
 use Rattle.logarithm.proofs.tables.row_of.Statement.{statement}
 use Rattle.logarithm.proofs.tables.row_of.Tie as tie
 

@@ -1,9 +1,8 @@
 #!/usr/bin/env python3
 """The seed of a square root on [1, 4): 128 pieces, each with the quadratic that meets the root at the three Chebyshev points of the piece.
-roots.py writes crates/roots/src/tables.rt and crates/roots/specs/Tables.antt from one list.
-roots.py --check compares both files with the list, each constant with its value at 400 bits, and prints the largest relative error of the seed's square."""
+roots.py writes crates/roots/src/tables.rt, crates/roots/specs/Tables.antt and the proof that they agree, from one list.
+roots.py --check writes nothing: it compares the files with the list, each constant with its value at 400 bits, and prints the largest relative error of the seed's square."""
 import os
-import re
 import struct
 import sys
 from fractions import Fraction
@@ -13,9 +12,11 @@ mp.prec = 400
 PIECES = 128
 HERE = os.path.dirname(os.path.abspath(__file__))
 CRATE = os.path.join(HERE, '..', '..', 'crates', 'roots')
-SOURCE = os.path.join(CRATE, 'src', 'tables.rt')
-SPECIFICATION = os.path.join(CRATE, 'specs', 'Tables.antt')
-NAMES = (('CONSTANT', 'constants', 'the constant terms'), ('SLOPE', 'slopes', 'the factors of the distance from the left end'), ('BEND', 'bends', 'the factors of its square, which is taken off'))
+NAMES = (
+    ('constant', 'constants', 'the constant terms'),
+    ('slope', 'slopes', 'the factors of the distance from the left end'),
+    ('bend', 'bends', 'the factors of its square, which is taken off'),
+)
 
 
 def piece(i):
@@ -60,22 +61,61 @@ def tables():
 
 
 def source(columns):
-    lines = ['// The seed\'s 128 quadratics, by their coefficients: tools/tables/roots.py writes this file and specs/Tables.antt from one list.']
-    for (name, _, says), column in zip(NAMES, columns):
-        lines += ['', '// ' + says, f'pub const {name}: [f64; {PIECES}] = [']
-        lines += [f'    {value!r},' for value in column]
-        lines += ['];']
-    return '\n'.join(lines) + '\n'
+    lines = [
+        '// The seed\'s 128 quadratics. They are a match, which the compiler turns into constants in memory: an array would be stored anew in each call.',
+        '// Written and confirmed by tools/tables/roots.py, with specs/Tables.antt and the proof that they agree.',
+        'ghost use mathlib.Core.Path.{_≡_};',
+        'ghost use Prim.Native.Nat.{_<_};',
+        'ghost use lib.ListN.{getD};',
+        'ghost use lib.Ieee.{nan};',
+        'ghost use Rattle.roots.specs.Tables.{constants, slopes, bends};',
+        '',
+        '// constant + slope * d - bend * d * d, with d the distance from the left end of the piece',
+        'pub struct Quadratic {',
+    ]
+    lines += [f'    pub {field}: f64,' for field, _, _ in NAMES]
+    lines += ['}', '', 'pub fn quadratic_of(i: u64) -> Quadratic', f'    requires {{ ⌜ i < {PIECES} ⌝ }}']
+    lines += ['    ensures { λ r. ⌜ ' + ' × '.join(f'(r .{field} ≡ getD {name} i nan)' for field, name, _ in NAMES) + ' ⌝ }', '{', '    match i {']
+    for i, row in enumerate(zip(*columns)):
+        lines.append(f'        {"_" if i == PIECES - 1 else i} => Quadratic {{')
+        lines += [f'            {field}: {value!r},' for (field, _, _), value in zip(NAMES, row)]
+        lines.append('        },')
+    return '\n'.join(lines + ['    }', '}']) + '\n'
 
 
 def specification(columns):
     lines = ['-- The seed\'s 128 quadratics, by the bits of their coefficients; the decimals are in src/tables.rt. Definitions only.', 'use mathlib.Core.List.{List, [], _∷_}', 'use lib.Ieee.{Float, binary64, ofBits}']
     for (_, name, says), column in zip(NAMES, columns):
         lines += ['', '-- ' + says, f'unfoldable pub {name} : List Float', f'{name} =']
-        for value in column:
-            lines.append(f'    ofBits binary64 0x{bits(value):016X} ∷')
+        lines += [f'    ofBits binary64 0x{bits(value):016X} ∷' for value in column]
         lines[-1] += ' []'
     return '\n'.join(lines) + '\n'
+
+
+def proof():
+    names = [name for _, name, _ in NAMES]
+    needs = ['returns'] + [f'returns-{k}' for k in range(2, PIECES + 1)]
+    lines = [
+        f'-- `roots::tables::quadratic_of` meets its contract, at each of its {PIECES} pieces. Written by tools/tables/roots.py. Assumes nothing.',
+        'use mathlib.Core.Path.{refl}',
+        f'use Rattle.roots.specs.Tables.{{{", ".join(names)}}}',
+        'use Rattle.roots.proofs.Arms.{last}',
+        'use Rattle.roots.proofs.tables.quadratic_of.Statement.{statement}',
+        'use Rattle.roots.proofs.tables.quadratic_of.Tie as tie',
+    ]
+    for k, need in enumerate(needs, 1):
+        fact = f'c .match .keys{k}' if k < PIECES else f'last {PIECES - 1} (c .before .args .i) (c .before .pre) (c .match .rest)'
+        lines += ['', f'{need} : tie.Need-{need}', f'unfolding {" ".join(names)}', f'{need} c = rw ({fact}) (refl, refl, refl)']
+    lines += ['', 'pub quadratic-of-spec : {M : Type 1} → statement M', 'quadratic-of-spec =', '    tie.close', '    (tie.spec']
+    return '\n'.join(lines + ['    ' + need for need in needs]) + ')\n'
+
+
+def files(columns):
+    return [
+        (os.path.join(CRATE, 'src', 'tables.rt'), source(columns)),
+        (os.path.join(CRATE, 'specs', 'Tables.antt'), specification(columns)),
+        (os.path.join(CRATE, 'proofs', 'tables', 'quadratic_of', 'Proof.antt'), proof()),
+    ]
 
 
 def seed_error(columns):
@@ -92,12 +132,8 @@ def seed_error(columns):
 
 
 def check(columns):
-    text = open(SOURCE).read()
-    written = [float(number) for number in re.findall(r'^    ([0-9.e-]+),$', text, re.M)]
-    assert written == [value for column in columns for value in column], 'src/tables.rt differs'
-    text = open(SPECIFICATION).read()
-    written = [int(number, 16) for number in re.findall(r'0x([0-9A-F]{16})', text)]
-    assert written == [bits(value) for column in columns for value in column], 'specs/Tables.antt differs'
+    for path, text in files(columns):
+        assert open(path, encoding='utf-8').read() == text, path
     print(f'{3 * PIECES} constants, each the nearest binary64; the square of the seed is within {float(seed_error(columns)):.3e} of its argument, relatively')
 
 
@@ -105,8 +141,8 @@ if __name__ == '__main__':
     if sys.argv[1:] == ['--check']:
         check(tables())
     elif not sys.argv[1:]:
-        made = tables()
-        open(SOURCE, 'w').write(source(made))
-        open(SPECIFICATION, 'w').write(specification(made))
+        for path, text in files(tables()):
+            os.makedirs(os.path.dirname(path), exist_ok=True)
+            open(path, 'w', encoding='utf-8').write(text)
     else:
         sys.exit(__doc__)

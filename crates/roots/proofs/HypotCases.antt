@@ -141,7 +141,7 @@ full (fin s (suc m) e) (fin t zero d) p q g h = no (sym h ∙ of-zero t d)
 full (fin s (suc m) e) (fin t (suc n) d) p q g h = refl
 
 -- ---- a finite sum of squares has finite parts
-sum-parts : (f : Format) (z w : Float) → T (finite (add f z w)) → T (finite z) × T (finite w)
+pub sum-parts : (f : Format) (z w : Float) → T (finite (add f z w)) → T (finite z) × T (finite w)
 unfolding add
 sum-parts f nan w h = absurd h
 sum-parts f (inf s) nan h = absurd h
@@ -155,7 +155,7 @@ sum-parts f (fin s m e) nan h = absurd h
 sum-parts f (fin s m e) (inf t) h = absurd h
 sum-parts f (fin s m e) (fin t n d) h = (tt, tt)
 
-square-part : (f : Format) (x : Float) → T (finite (mul f x x)) → T (finite x)
+pub square-part : (f : Format) (x : Float) → T (finite (mul f x x)) → T (finite x)
 unfolding mul
 square-part f nan h = h
 square-part f (inf s) h = h

@@ -33,7 +33,7 @@ field-value (suc G) h k =
     (subst (λ (b : ℕ). HasValue (ofBits binary64 b) false (fieldUnits (suc G) 0) (2 ^ 1074)) e (pattern-value (suc G) 0 k (pow-pos 52)))
 
 -- ---- twice the root is from 1 to 5
-from-squares : (a b : ℕ) → a * a ≤ b * b → a ≤ b
+pub from-squares : (a b : ℕ) → a * a ≤ b * b → a ≤ b
 from-squares a b h = elim (which b a) [ inl k ↦ absurd (not-le-of-lt (square-lt b a k) h) | inr k ↦ k ]
 
 doubled-range : (u : ℕ) → (den (twiceRoot u) ≤ num (twiceRoot u)) × (num (twiceRoot u) ≤ 5 * den (twiceRoot u))

@@ -1,4 +1,5 @@
 -- The theorems, by topic.
+pub mod Arms
 pub mod WholeRoot
 pub mod HypotCases
 pub mod Shape
@@ -13,3 +14,8 @@ pub mod Corrections
 pub mod SqrtValues
 pub mod Mixed
 pub mod HypotRoot
+pub mod HypotSum
+pub mod HypotRange
+pub mod HypotParts
+pub mod HypotFacts
+pub mod HypotValues

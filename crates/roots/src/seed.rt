@@ -3,19 +3,17 @@
 ghost use mathlib.Core.Path.{_≡_};
 ghost use Prim.Native.Nat.{_<_, _^_};
 ghost use Rattle.roots.specs.Seed.{seedOf, twiceRoot};
-use crate::tables::BEND;
-use crate::tables::CONSTANT;
-use crate::tables::SLOPE;
+use crate::tables::quadratic_of;
 
 // w is how far the argument's pattern is above that of 1; each piece has 2^46 patterns.
 fn seed(w: u64) -> f64
     requires { ⌜ w < 2 ^ 53 ⌝ }
     ensures { λ r. ⌜ r ≡ seedOf w ⌝ }
 {
-    let i = (w / 0x0000400000000000) as usize;
+    let q = quadratic_of(w / 0x0000400000000000);
     let d = f64::from_bits(w + 0x3FF0000000000000)
         - f64::from_bits(w - w % 0x0000400000000000 + 0x3FF0000000000000);
-    CONSTANT[i] + SLOPE[i] * d - BEND[i] * d * d
+    q.constant + q.slope * d - q.bend * d * d
 }
 
 // An even power of two is taken off the exponent of the pattern u, so that what is left lies in [1, 4).

@@ -1,0 +1,5 @@
+-- The theorems, by topic.
+pub mod Factors
+pub mod LostFacts
+pub mod PowerFacts
+pub mod Sharing

@@ -1,0 +1,69 @@
+-- The functions of a complex number, by their real formulas. Definitions only.
+-- Those that need the modulus, the angle or a root of it are given first of these, which a caller may have already.
+use Prim.Native.Nat.{ℕ}
+use lib.Ieee.{Float, binary64, ofBits}
+use Rattle.laws.specs.Iterate.{iterate}
+use Rattle.laws.specs.Operators.{_⊗_, _⊘_}
+use Rattle.exponential.specs.Exp.{expOf}
+use Rattle.exponential.specs.Cosh.{coshOf}
+use Rattle.exponential.specs.Sinh.{sinhOf}
+use Rattle.logarithm.specs.Ln.{lnOf}
+use Rattle.circular.specs.Sin.{sinOf}
+use Rattle.circular.specs.Cos.{cosOf}
+use Rattle.angle.specs.Angle.{angleOf}
+use Rattle.roots.specs.Hypot.{hypotOf}
+use Rattle.roots.specs.Sqrt.{sqrtOf}
+use Rattle.complex.specs.declared.number.Complex.{Complex}
+use Rattle.complex.specs.Arithmetic.{plusOf, conjugateOf, productOf, timesReal}
+
+-- ---- of the modulus and the angle
+unfoldable pub modulusOf : Complex → Float
+modulusOf z = hypotOf (z .re) (z .im)
+
+unfoldable pub argumentOf : Complex → Float
+argumentOf z = angleOf (z .im) (z .re)
+
+-- the point at the distance r and the angle h
+unfoldable pub polarOf : Float → Float → Complex
+polarOf r h = record { re = r ⊗ cosOf h; im = r ⊗ sinOf h }
+
+unfoldable pub lnWith : Float → Float → Complex
+lnWith modulus angle = record { re = lnOf modulus; im = angle }
+
+unfoldable pub complexLnOf : Complex → Complex
+complexLnOf z = lnWith (modulusOf z) (argumentOf z)
+
+-- half the angle is its quotient by 2
+unfoldable pub atHalfAngle : Float → Float → Complex
+atHalfAngle root angle = polarOf root (angle ⊘ ofBits binary64 0x4000000000000000)
+
+-- the root of the modulus at half the angle
+unfoldable pub complexSqrtOf : Complex → Complex
+complexSqrtOf z = atHalfAngle (sqrtOf (modulusOf z)) (argumentOf z)
+
+-- 2/z: with t = 1/|z| and s = (re t, -im t), each part of s doubled, then times t
+unfoldable pub twoOverWith : Complex → Float → Complex
+twoOverWith z modulus =
+    let t = ofBits binary64 0x3FF0000000000000 ⊘ modulus in
+    let s = timesReal (conjugateOf z) t in
+    timesReal (plusOf s s) t
+
+unfoldable pub twoOverOf : Complex → Complex
+twoOverOf z = twoOverWith z (modulusOf z)
+
+-- ---- exponential and hyperbolic
+unfoldable pub complexExpOf : Complex → Complex
+complexExpOf z = polarOf (expOf (z .re)) (z .im)
+
+unfoldable pub complexCoshOf : Complex → Complex
+complexCoshOf z = record { re = coshOf (z .re) ⊗ cosOf (z .im); im = sinhOf (z .re) ⊗ sinOf (z .im) }
+
+unfoldable pub complexSinhOf : Complex → Complex
+complexSinhOf z = record { re = sinhOf (z .re) ⊗ cosOf (z .im); im = coshOf (z .re) ⊗ sinOf (z .im) }
+
+-- ---- powers: as many products in a row, starting from 1
+unfoldable pub powerOf : Complex → ℕ → Complex
+powerOf z i = iterate i (λ p. productOf p z) (record { re = ofBits binary64 0x3FF0000000000000; im = ofBits binary64 0 })
+
+unfoldable pub realPowerOf : Float → ℕ → Float
+realPowerOf x i = iterate i (λ p. p ⊗ x) (ofBits binary64 0x3FF0000000000000)

@@ -1,0 +1,4 @@
+-- The definitions, by topic.
+pub mod Arithmetic
+pub mod Functions
+pub mod Lost

@@ -1,0 +1,60 @@
+-- `gamma_ln::gamma_ln::gamma_ln` meets its contract: each way by the tests that led to it. Assumes nothing.
+use mathlib.Core.Path.{sym, _∙_, subst}
+use lib.Dec.{T}
+use lib.Ieee.{lt}
+use Rattle.machine.specs.Constants.{gammaLnMinimum}
+use Rattle.gamma_ln.specs.GammaLn.{isTabulated, gammaLnOf}
+use Rattle.gamma_ln.proofs.Arguments.{tabulated-positive, below-positive}
+use borrow.Author.Needs.{needs}
+use Rattle.gamma_ln.proofs.gamma_ln.gamma_ln.Statement.{statement}
+use Rattle.gamma_ln.proofs.gamma_ln.gamma_ln.Tie as tie
+
+not-a-number-requires : tie.Need-not-a-number-requires
+not-a-number-requires c κs = search needs
+
+returns : tie.Need-returns
+unfolding gammaLnOf
+returns c = simp (c .not-a-number .ensures, c .before .if1 .taken)
+
+is-tabulated-requires : tie.Need-is-tabulated-requires
+is-tabulated-requires c κs = search needs
+
+tabulated-requires : tie.Need-tabulated-requires
+tabulated-requires c κs =
+    let t : T (isTabulated (c .before .before .before .args .x)) = subst T (sym (sym (c .before .is-tabulated .ensures) ∙ c .if2 .taken)) tt in
+    (tabulated-positive (c .before .before .before .args .x) (c .before .before .if1 .left) t, t)
+
+returns-2 : tie.Need-returns-2
+unfolding gammaLnOf
+returns-2 c = simp (c .tabulated .ensures, c .before .before .before .if1 .left, sym (c .before .before .is-tabulated .ensures) ∙ c .before .if2 .taken)
+
+shifted-requires : tie.Need-shifted-requires
+unfolding gammaLnMinimum
+shifted-requires c κs =
+    let t : T (lt (c .before .before .before .before .args .x) gammaLnMinimum) = subst T (sym (c .if3 .taken)) tt in
+    (below-positive (c .before .before .before .before .args .x) (c .before .before .before .if1 .left) t, t)
+
+returns-3 : tie.Need-returns-3
+unfolding gammaLnOf gammaLnMinimum
+returns-3 c = simp (c .shifted .ensures, c .before .before .before .before .if1 .left, sym (c .before .before .before .is-tabulated .ensures) ∙ c .before .before .if2 .left, c .before .if3 .taken)
+
+stirling-requires : tie.Need-stirling-requires
+stirling-requires c κs = search needs
+
+returns-4 : tie.Need-returns-4
+unfolding gammaLnOf gammaLnMinimum
+returns-4 c = simp (c .stirling .ensures, c .before .before .before .before .if1 .left, sym (c .before .before .before .is-tabulated .ensures) ∙ c .before .before .if2 .left, c .before .if3 .left)
+
+pub gamma-ln-spec : {M : Type 1} → statement M
+gamma-ln-spec =
+    tie.close
+    (tie.spec
+    not-a-number-requires
+    returns
+    is-tabulated-requires
+    tabulated-requires
+    returns-2
+    shifted-requires
+    returns-3
+    stirling-requires
+    returns-4)

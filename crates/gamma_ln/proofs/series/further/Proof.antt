@@ -1,0 +1,83 @@
+-- `gamma_ln::series::further` meets its contract: before each turn the run that is left, from the state as it is, ends as the whole run does. Assumes nothing.
+use mathlib.Core.Path.{_≡_, refl, sym, _∙_}
+use mathlib.Core.Bool.{true, false}
+use Prim.Native.Nat.{ℕ, _-_, _≤_, _<_}
+use native.Mathlib.Omega.{arith}
+use borrow.Author.Needs.{needs}
+use lib.Ieee.{Float}
+use Rattle.laws.specs.Run.{run}
+use Rattle.laws.proofs.Run.{run-next, run-stop, run-end}
+use Rattle.gamma_ln.specs.declared.series.Terms.{Terms}
+use Rattle.gamma_ln.specs.Series.{nextPower, nextTerm, withNext, isDone, firstOf, furtherOf}
+use Rattle.gamma_ln.proofs.series.further.Statement.{statement}
+use Rattle.gamma_ln.proofs.series.further.Tie as tie
+
+abbrev left : Float → Float → Float → Float → ℕ → Terms
+left square bound power sum count = run (isDone square bound) (withNext square) (22 - count) count (record { power = power; sum = sum; count = count })
+
+abbrev Inv-loop : tie.InvT-loop
+Inv-loop start first square bound power₀ sum₀ count₀ power sum count = (count ≤ 22) × (furtherOf start first square bound ≡ left square bound power sum count)
+
+abbrev μ-loop : tie.MeasureT-loop
+μ-loop start first square bound power₀ sum₀ count₀ power sum count = 22 - count
+
+loop-holds : tie.Need-loop-holds Inv-loop μ-loop
+unfolding furtherOf firstOf
+loop-holds c = (omega arith, refl)
+
+coefficient-requires : tie.Need-coefficient-requires Inv-loop μ-loop
+coefficient-requires c κs = omega arith
+
+is-below-requires : tie.Need-is-below-requires Inv-loop μ-loop
+is-below-requires c κs = search needs
+
+returns : tie.Need-returns Inv-loop μ-loop
+unfolding isDone nextTerm nextPower
+returns c =
+    let stop = isDone (c .before .before .before .before .before .args .square) (c .before .before .before .before .before .args .bound) in
+    let step = withNext (c .before .before .before .before .before .args .square) in
+    let n = c .before .before .before .before .loop .count in
+    let s : Terms = record { power = c .before .before .before .before .loop .power; sum = c .before .before .before .before .loop .sum; count = n } in
+    let e : stop n s ≡ true = simp (← c .before .before .coefficient .ensures, ← c .before .is-below .ensures, c .if1 .taken) in
+    sym (c .before .before .before .before .loop .inv .1 ∙ run-stop stop step (22 - n) n s e)
+
+add-count : tie.Need-add-count Inv-loop μ-loop
+add-count c = search needs
+
+loop-less : tie.Need-loop-less Inv-loop μ-loop
+loop-less c = omega arith
+
+loop-again : tie.Need-loop-again Inv-loop μ-loop
+unfolding isDone withNext nextTerm nextPower
+loop-again c =
+    let stop = isDone (c .before .before .before .before .before .args .square) (c .before .before .before .before .before .args .bound) in
+    let step = withNext (c .before .before .before .before .before .args .square) in
+    let n = c .before .before .before .before .loop .count in
+    let s : Terms = record { power = c .before .before .before .before .loop .power; sum = c .before .before .before .before .loop .sum; count = n } in
+    let e : stop n s ≡ false = simp (← c .before .before .coefficient .ensures, ← c .before .is-below .ensures, c .if1 .left) in
+    let h : n < 22 = omega arith in
+    (omega arith, simp (c .before .before .coefficient .ensures) (c .before .before .before .before .loop .inv .1 ∙ run-next stop step 22 n s h e))
+
+returns-2 : tie.Need-returns-2 Inv-loop μ-loop
+returns-2 c =
+    let stop = isDone (c .before .before .args .square) (c .before .before .args .bound) in
+    let step = withNext (c .before .before .args .square) in
+    let n = c .before .loop .count in
+    let s : Terms = record { power = c .before .loop .power; sum = c .before .loop .sum; count = n } in
+    let h : 22 ≤ n = omega arith in
+    sym (c .before .loop .inv .1 ∙ run-end stop step 22 n s h)
+
+pub further-spec : {M : Type 1} → statement M
+further-spec =
+    tie.close
+    (tie.spec
+    Inv-loop
+    μ-loop
+    loop-holds
+    coefficient-requires
+    is-below-requires
+    returns
+    add-count
+    loop-less
+    loop-again
+    returns-2)

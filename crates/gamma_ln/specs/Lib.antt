@@ -1,0 +1,5 @@
+pub mod Tables
+pub mod Series
+pub mod Factors
+pub mod GammaLn
+pub mod LogGamma

@@ -1,0 +1,16 @@
+-- The number of each refusal, as in docs/SCOPE.md's table. Definitions only.
+use Prim.Native.Nat.{ℕ}
+use Rattle.refusal.specs.declared.refusal.Refusal.{Refusal}
+use Rattle.refusal.specs.declared.refusal.Refusal.the-variants.{Length, NotFinite, Domain, Zero, Series, Start, Climb, Overflow, Malformed, NotPositive}
+
+abbrev pub numberOf : Refusal → ℕ
+numberOf Length = 1
+numberOf NotFinite = 2
+numberOf Domain = 3
+numberOf Zero = 4
+numberOf Series = 5
+numberOf Start = 6
+numberOf Climb = 7
+numberOf Overflow = 8
+numberOf Malformed = 9
+numberOf NotPositive = 10

@@ -1,0 +1,46 @@
+// The refusals, in the order of their numbers. A call gives the first that applies; an answer has the number 0.
+// docs/SCOPE.md says exactly when each is given. Promised: the numbers of specs/Number.antt, no two of which are equal.
+ghost use mathlib.Core.Path.{_≡_};
+ghost use Rattle.refusal.specs.Number.{numberOf};
+
+pub enum Refusal {
+    // the buffer's length is odd, 0, or too large
+    Length,
+    // an argument is not finite
+    NotFinite,
+    // an argument lies outside its limits
+    Domain,
+    // K of 0
+    Zero,
+    // I, and the argument is too large for the power series
+    Series,
+    // K: the search for Miller's start found none
+    Start,
+    // K: the climb out of underflow found no two values on scale
+    Climb,
+    // a finished value is not finite
+    Overflow,
+    // a malformed line
+    Malformed,
+    // log-gamma of 0 or less
+    NotPositive,
+}
+
+impl Refusal {
+    pub fn number(self) -> u32
+        ensures { λ r. ⌜ r ≡ numberOf self ⌝ }
+    {
+        match self {
+            Refusal::Length => 1,
+            Refusal::NotFinite => 2,
+            Refusal::Domain => 3,
+            Refusal::Zero => 4,
+            Refusal::Series => 5,
+            Refusal::Start => 6,
+            Refusal::Climb => 7,
+            Refusal::Overflow => 8,
+            Refusal::Malformed => 9,
+            Refusal::NotPositive => 10,
+        }
+    }
+}

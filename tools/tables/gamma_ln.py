@@ -67,7 +67,7 @@ def proof(row, table):
     out = ['-- `gamma_ln::tables::%s` meets its contract, at each of its %d entries. Written by tools/tables/gamma_ln.py. Assumes nothing.' % (function, size)]
     # the source has a minus sign where the definition has the sign's bit
     out += ['use lib.Ieee.{ofBits, neg}'] * (min(table) < 0)
-    out += ['use Rattle.logarithm.proofs.Arms.{last}', 'use Rattle.gamma_ln.specs.Tables.{%s}' % name, 'use %s.Statement.{statement}' % place, 'use %s.Tie as tie' % place]
+    out += ['use Rattle.laws.proofs.Arms.{last}', 'use Rattle.gamma_ln.specs.Tables.{%s}' % name, 'use %s.Statement.{statement}' % place, 'use %s.Tie as tie' % place]
     for k, (need, x) in enumerate(zip(needs, table), 1):
         fact = 'c .match .keys%d' % k if k < size else 'last %d (c .before .args .%s) (c .before .pre) (c .match .rest)' % (size - 1, index)
         out += ['', '%s : tie.Need-%s' % (need, need), 'unfolding %s%s' % ('ofBits neg ' if x < 0 else '', name), '%s c = rw (%s)' % (need, fact)]

@@ -1,5 +1,5 @@
 -- `gamma_ln::tables::whole_value` meets its contract, at each of its 101 entries. Written by tools/tables/gamma_ln.py. Assumes nothing.
-use Rattle.logarithm.proofs.Arms.{last}
+use Rattle.laws.proofs.Arms.{last}
 use Rattle.gamma_ln.specs.Tables.{wholeValues}
 use Rattle.gamma_ln.proofs.tables.whole_value.Statement.{statement}
 use Rattle.gamma_ln.proofs.tables.whole_value.Tie as tie

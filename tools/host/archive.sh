@@ -34,6 +34,8 @@ printf 'int main(void) { return 0; }' > target/host/empty.c
 clang --target="$(uname -m)-unknown-linux-gnu" -S -emit-llvm target/host/empty.c -o target/host/empty.ll
 layout=$(grep '^target datalayout' target/host/empty.ll)
 sed -i -e "s/^target datalayout = .*/$layout/" -e "s/^target triple = .*/target triple = \"$(uname -m)-unknown-linux-gnu\"/" -e 's/"target-cpu"="[^"]*"//; s/"target-features"="[^"]*"//; s/"tune-cpu"="[^"]*"//' target/host/module.ll
+# a record of a double and a number comes back in two integer registers on aarch64
+if [ "$(uname -m)" = aarch64 ]; then sed -i 's/{ double, i64 }/{ i64, i64 }/g' target/host/module.ll; fi
 clang --target="$(uname -m)-unknown-linux-gnu" -ffp-contract=off -fPIC -O3 -ffunction-sections -x ir target/host/module.ll -c -o target/host/capi.o
 rm -f target/host/libcapi.a
 "$kit_tools/bin/llvm-ar" rcs target/host/libcapi.a target/host/capi.o

@@ -1,4 +1,4 @@
-// The C boundary: target/staticlib/libcapi.a. Numbers pass as themselves. Each export has the whole contract of the routine behind it:
+// The C boundary: target/staticlib/libcapi.a. Numbers pass as themselves, records by value. Each export has the whole contract of the routine behind it:
 // its result is that routine's definition, for every argument, not-a-number and infinities included.
 ghost use mathlib.Core.Path.{_≡_};
 ghost use Rattle.roots.specs.Sqrt.{sqrtOf};
@@ -13,6 +13,10 @@ ghost use Rattle.circular.specs.SinPi.{sinPiOf};
 ghost use Rattle.circular.specs.CosPi.{cosPiOf};
 ghost use Rattle.angle.specs.Angle.{angleOf};
 ghost use Rattle.rounding.specs.Round.{roundOf};
+ghost use Rattle.gamma_ln.specs.LogGamma.{logGammaOf};
+ghost use Rattle.capi.specs.Outcome.{outcomeOf};
+use gamma_ln::log_gamma::log_gamma;
+use machine::constants::not_a_number;
 
 #[no_mangle]
 pub extern "C" fn lichenoar_sqrt(x: f64) -> f64
@@ -99,4 +103,25 @@ pub extern "C" fn lichenoar_round(x: f64) -> f64
     ensures { λ r. ⌜ r ≡ roundOf x ⌝ }
 {
     rounding::round::round(x)
+}
+
+// An answer has the number 0. A refusal has its own, and the fixed not-a-number in the place of the value.
+#[repr(C)]
+pub struct LogGamma {
+    pub value: f64,
+    pub number: u32,
+}
+
+#[no_mangle]
+pub extern "C" fn lichenoar_log_gamma(x: f64) -> LogGamma
+    ensures { λ r. ⌜ r ≡ outcomeOf (logGammaOf x) ⌝ }
+{
+    let outcome = log_gamma(x);
+    match outcome {
+        gamma_ln::log_gamma::LogGamma::Value(value) => LogGamma { value, number: 0 },
+        gamma_ln::log_gamma::LogGamma::Refused(refusal) => LogGamma {
+            value: not_a_number(),
+            number: refusal.number(),
+        },
+    }
 }

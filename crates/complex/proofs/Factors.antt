@@ -1,14 +1,13 @@
 -- A factor that changes nothing, and a divisor that is a factor: 1, and 2^-52 against 2^52. Assumes nothing.
-use mathlib.Core.Path.{_≡_, refl, ap, _∙_, subst}
-use Prim.Native.Nat.{ℕ, zero, suc, _*_, _%_, _^_, _≤_, _<_}
+use mathlib.Core.Path.{_≡_, refl, ap, _∙_}
+use Prim.Native.Nat.{ℕ, zero, suc, _*_, _%_, _^_, _<_}
 use native.Mathlib.Nat.{mul-one, one-mul, zero-mul, mul-pos}
 use mathlib.Core.Bool.{Bool, true, false, _&&_}
-use lib.IntN.{ℤ, pos}
+use lib.IntN.{ℤ}
 use lib.Dec.{T, ltb, leb, eqb, ltb→lt, lit<}
 use lib.Pow.{pow-pos}
-use lib.Ieee.{Float, nan, inf, fin, binary64, up, down, unlike, round, mul, div, ofBits, fits}
+use lib.Ieee.{Float, nan, inf, fin, binary64, up, down, unlike, mul, div, ofBits, fits}
 use lib.Ieee.Fits.{down-pos, and-r, mul-fits}
-use lib.Ieee.Exact.{HasValue}
 use Rattle.laws.proofs.Order.{mul-comm-float}
 use Rattle.laws.proofs.Power.{unique, power-up, scale-up}
 use Rattle.machine.specs.Constants.{tolerance, inverseTolerance}

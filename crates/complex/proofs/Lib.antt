@@ -1,4 +1,5 @@
 -- The theorems, by topic.
+pub mod AtZero
 pub mod Factors
 pub mod LostFacts
 pub mod PowerFacts

@@ -1,9 +1,8 @@
 -- Which pairs are lost: the three examples of the scope, by computation, and no pair with a not-a-number part. Assumes nothing.
-use mathlib.Core.Path.{_≡_, refl, ap, _∙_}
-use mathlib.Core.Bool.{Bool, true, false, _&&_, cond}
+use mathlib.Core.Path.{_≡_, refl}
+use mathlib.Core.Bool.{Bool, true, false, _&&_}
 use lib.Ieee.{Float, nan, inf, fin, binary64, ofBits, neg, lt, le, mul}
 use Rattle.machine.specs.Constants.{absoluteApproximationLimit, inverseTolerance}
-use Rattle.complex.specs.declared.number.Complex.{Complex}
 use Rattle.complex.specs.Lost.{magnitudeOf, lostBeside, lostOf}
 
 pub zero-not-lost : lostOf (record { re = ofBits binary64 0; im = ofBits binary64 0 }) ≡ false

@@ -1,5 +1,5 @@
 -- The functions of a complex number, by their real formulas. Definitions only.
--- Those that need the modulus, the angle or a root of it are given first of these, which a caller may have already.
+-- A function of the modulus and the angle is defined on these two first: a caller may have them already.
 use Prim.Native.Nat.{ℕ}
 use lib.Ieee.{Float, binary64, ofBits}
 use Rattle.laws.specs.Iterate.{iterate}

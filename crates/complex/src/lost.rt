@@ -5,7 +5,7 @@ ghost use Rattle.complex.specs.Lost.{magnitudeOf, lostBeside, lostOf};
 use crate::number::Complex;
 use machine::constants::Machine;
 
-fn magnitude(x: f64) -> f64
+pub fn magnitude(x: f64) -> f64
     ensures { λ r. ⌜ r ≡ magnitudeOf x ⌝ }
 {
     if x < 0.0 {

@@ -1,25 +1,24 @@
 -- What the f64 steps leave to correct: the 53 digits that they give are within 3 of the nearest whole root (`sqrt-corrections`). Assumes nothing.
-use mathlib.Core.Path.{_≡_, refl, sym, ap, _∙_, subst}
-use mathlib.Core.Logic.{_⊎_, inl, inr}
-use mathlib.Core.Bool.{false, not}
-use Prim.Native.Nat.{ℕ, zero, suc, _+_, _-_, _*_, _/_, _%_, _^_, _≤_, _<_}
-use native.Mathlib.Nat.{le-trans, le-of-eq, le-of-lt, lt-of-lt-of-le, lt-of-le-of-lt, mul-one, mul-assoc, mul-comm, mul-left-comm, mul-right-comm, add-mul, mul-add, mul-pos, mul-le-mul, mul-le-mul-left, mul-le-mul-right, le-of-mul-le-mul-right, mul-mul-mul-comm, pow-succ'}
+use mathlib.Core.Path.{_≡_, sym, ap, _∙_}
+use mathlib.Core.Logic.{inl, inr}
+use mathlib.Core.Bool.{false}
+use Prim.Native.Nat.{ℕ, _+_, _-_, _*_, _^_, _≤_, _<_}
+use native.Mathlib.Nat.{le-trans, le-of-eq, le-of-lt, lt-of-lt-of-le, lt-of-le-of-lt, mul-assoc, mul-comm, add-mul, mul-add, mul-pos, mul-le-mul, mul-le-mul-left, mul-le-mul-right, le-of-mul-le-mul-right, mul-mul-mul-comm}
 use native.Mathlib.Omega.{arith}
-use lib.Dec.{T, lit<, lit≤}
-use lib.Pow.{pow-add, pow-pos}
-use lib.Ieee.{Float, binary64, toBits, fits}
+use lib.Pow.{pow-pos}
+use lib.Ieee.{Float, binary64, toBits}
 use lib.Ieee.Exact.{HasValue}
 use lib.Ieee.Fits.{add-fits}
-use lib.Ieee.Positive.{num, den, positive, den-pos, value→cross}
+use lib.Ieee.Positive.{num, den, den-pos, value→cross}
 use Rattle.laws.proofs.Bits.{unitsOf, units-at, units-lt-back}
-use Rattle.laws.proofs.Relative.{Rat, rat-mul, rat-trans, rat-left}
+use Rattle.laws.proofs.Relative.{Rat, rat-left}
 use Rattle.roots.specs.Seed.{folded, twiceRoot}
 use Rattle.roots.specs.Sqrt.{scaled, nearestRoot}
 use Rattle.roots.proofs.WholeRoot.{Nearest, which}
 use Rattle.roots.proofs.Shape.{root-nearest, root-least, root-most}
 use Rattle.roots.proofs.Nearest.{units-digits, units-value}
-use Rattle.roots.proofs.SeedClose.{scaled-range}
-use Rattle.roots.proofs.Heron.{Doubled, twice-close}
+use Rattle.roots.proofs.Significand.{scaled-range}
+use Rattle.roots.proofs.Heron.{twice-close}
 
 -- ---- numbers: B * B is X * g * g to one part in 2 ^ 50, and R is nearest to the root of X
 -- each is refuted by 608 * R below 7 * 2 ^ 60, and the like

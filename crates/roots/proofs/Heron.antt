@@ -1,21 +1,21 @@
 -- The Heron step: the square of s + f / s is 4 f and the square of s - f / s, so a seed to one part in 2^25 gives twice the root to one part in 2^50, the two roundings included. Assumes nothing.
-use mathlib.Core.Path.{_≡_, refl, sym, ap, _∙_, subst}
+use mathlib.Core.Path.{_≡_, sym, ap, _∙_}
 use mathlib.Core.Logic.{_⊎_, inl, inr}
 use mathlib.Core.Bool.{false}
-use Prim.Native.Nat.{ℕ, zero, suc, _+_, _-_, _*_, _/_, _%_, _^_, _≤_, _<_}
-use native.Mathlib.Nat.{le-trans, le-of-eq, le-of-lt, mul-one, mul-assoc, mul-comm, mul-left-comm, mul-right-comm, add-mul, mul-add, mul-pos, mul-le-mul, mul-le-mul-left, mul-le-mul-right, le-of-mul-le-mul-right}
+use Prim.Native.Nat.{ℕ, _+_, _-_, _*_, _^_, _≤_, _<_}
+use native.Mathlib.Nat.{le-trans, le-of-eq, mul-one, mul-assoc, mul-comm, mul-left-comm, add-mul, mul-add, mul-pos, mul-le-mul, mul-le-mul-left, mul-le-mul-right, le-of-mul-le-mul-right}
 use native.Mathlib.Omega.{arith}
 use lib.Dec.{T, lit<, lit≤}
 use lib.Pow.{pow-pos}
 use lib.Ieee.{Float, binary64, add, div}
 use lib.Ieee.Exact.{HasValue}
 use lib.Ieee.Positive.{num, den, positive, den-pos, value→cross, positive-of-value}
-use lib.Ieee.Scale.{finite}
-use Rattle.laws.proofs.Relative.{Rat, Normal, Close, largest, positive-num, rat-refl, rat-mul, rat-trans, rat-weaken, rat-add, rat-left, rat-right, rat-le, add-finite, div-finite, add-close, div-close}
+use Rattle.laws.proofs.Relative.{Rat, Close, largest, positive-num, rat-refl, rat-mul, rat-trans, rat-weaken, rat-add, rat-right, rat-le, add-finite, div-finite, add-close, div-close}
 use Rattle.roots.specs.Seed.{folded, argument, seedOf, twiceRoot}
 use Rattle.roots.specs.Sqrt.{scaled}
 use Rattle.roots.proofs.WholeRoot.{which}
-use Rattle.roots.proofs.SeedClose.{Seed, seed-close, argument-value, scaled-range}
+use Rattle.roots.proofs.Significand.{scaled-range}
+use Rattle.roots.proofs.SeedClose.{seed-close, argument-value}
 
 -- ---- (P + R) ^ 2 is 4 P R and the square of what P and R differ by
 gap : (P R e : ℕ) → (P ≡ R + e) ⊎ (R ≡ P + e) → (P + R) * (P + R) ≡ 4 * (P * R) + e * e

@@ -1,20 +1,19 @@
 -- The cases of `hypotOf`, as tests on the parts tell them apart, and what a sum of squares within its range says of the parts. Assumes nothing.
 use mathlib.Core.Path.{_≡_, refl, sym, ap, _∙_, subst}
-use mathlib.Core.Logic.{inl, inr}
-use mathlib.Core.Bool.{Bool, true, false, not, _&&_, _||_, cond, Bool·beq, true≢false}
-use Prim.Native.Nat.{ℕ, zero, suc, _+_, _*_, _%_, _^_, _≤_, _<_}
-use native.Mathlib.Nat.{zero-mul, mul-one, mul-pos, lt-irrefl, zero-lt-suc, le-of-lt}
+use mathlib.Core.Bool.{Bool, true, false, not, _||_, cond, Bool·beq, true≢false}
+use Prim.Native.Nat.{ℕ, zero, suc, _*_, _%_, _^_, _<_}
+use native.Mathlib.Nat.{zero-mul, mul-pos, lt-irrefl, zero-lt-suc}
 use native.Mathlib.Omega.{arith}
 use lib.IntN.{ℤ, pos}
 use lib.Dec.{T, eqb, eqb→eq}
-use lib.Ieee.{Float, nan, inf, fin, Format, binary64, up, down, add, mul, le, eq, ne, level, ofBits, toBits, nanBits, isNan, fits}
-use lib.Ieee.Bits.{ofBits-toBits, nanBits-is, is-true, is-false}
+use lib.Ieee.{Float, nan, inf, fin, Format, binary64, up, down, add, mul, le, eq, ne, ofBits, toBits, nanBits, isNan, fits}
+use lib.Ieee.Bits.{ofBits-toBits, nanBits-is}
 use lib.Ieee.Fits.{up-pos, and-l}
 use lib.Ieee.Compare.{differs-from-itself}
 use lib.Ieee.Scale.{finite}
-use borrow.Author.Tests.{lt-ltb, eqb-true, ne-eqb}
-use Rattle.laws.proofs.Value.{sign, bare, finite-no-nan}
-use Rattle.laws.proofs.Bits.{infBits, ofBits-bare, toBits-bare, toBits-finite, bare-fits, bare-finite, bare-sign}
+use borrow.Author.Tests.{ne-eqb}
+use Rattle.laws.proofs.Value.{bare, finite-no-nan}
+use Rattle.laws.proofs.Bits.{infBits, ofBits-bare, toBits-bare, toBits-finite, bare-fits}
 use Rattle.laws.proofs.Order.{finite-between}
 use Rattle.roots.specs.Hypot.{rootAt, sumOfSquares, leastSum, greatestSum, larger, smaller, scaledHypot, magnitudeOf, infinite, fullHypot, hypotOf}
 

@@ -1,28 +1,25 @@
 -- Facts of `hypotOf`: wherever it is normal, its square is within one part in 2^40 of the sum of the squares (`hypot-close`); with a zero part it is exact (`hypot-zero-left`, `hypot-zero-right`); signs do not matter; special values. Assumes nothing.
 use mathlib.Core.Path.{_≡_, refl, sym, ap, _∙_, subst}
-use mathlib.Core.Logic.{_⊎_, inl, inr}
-use mathlib.Core.Bool.{Bool, true, false, not, _&&_}
-use Prim.Native.Nat.{ℕ, zero, suc, _+_, _-_, _*_, _^_, _≤_, _<_, zero-le}
-use native.Mathlib.Nat.{le-trans, le-of-eq, le-of-lt, lt-irrefl, zero-lt-suc, zero-mul, mul-zero, zero-add, add-zero, mul-one, one-mul, mul-assoc, mul-comm, mul-left-comm, mul-right-comm, mul-mul-mul-comm, add-mul, mul-add, mul-pos, mul-le-mul, mul-le-mul-left, mul-le-mul-right, le-of-mul-le-mul-right, le-add-right}
-use native.Mathlib.Omega.{arith}
-use lib.IntN.{ℤ, pos}
+use mathlib.Core.Bool.{Bool, true, false}
+use Prim.Native.Nat.{ℕ, zero, suc, _+_, _-_, _*_, _^_, _≤_, _<_}
+use native.Mathlib.Nat.{le-trans, le-of-eq, zero-lt-suc, zero-mul, zero-add, add-zero, mul-one, mul-assoc, mul-comm, mul-left-comm, mul-right-comm, mul-mul-mul-comm, add-mul, mul-pos, mul-le-mul, mul-le-mul-left, mul-le-mul-right, le-add-right}
+use lib.IntN.{ℤ}
 use lib.Dec.{T, lit<, lit≤}
-use lib.Pow.{pow-add, pow-pos}
-use lib.Ieee.{Float, nan, inf, fin, binary64, up, down, round, neg, add, mul, le, ofBits, toBits, fits}
+use lib.Pow.{pow-pos}
+use lib.Ieee.{Float, nan, inf, fin, binary64, up, down, round, add, mul, le, toBits, fits}
 use lib.Ieee.Exact.{HasValue}
 use lib.Ieee.Fits.{up-pos, down-pos, add-fits}
 use lib.Ieee.Positive.{num, den, positive, den-pos}
 use lib.Ieee.Scale.{finite}
 use Rattle.laws.proofs.Value.{sign, own-fraction}
 use Rattle.laws.proofs.Power.{mul-value}
-use Rattle.laws.proofs.Relative.{Rat, nonnegative, positive-nonnegative, nonnegative-value, round-nonnegative, rat-refl, rat-of-eq, rat-mul, rat-trans, rat-weaken, rat-left, rat-right}
-use Rattle.roots.specs.Hypot.{rootAt, sumOfSquares, leastSum, greatestSum, larger, smaller, scaledHypot, fullHypot, magnitudeOf, hypotOf}
-use Rattle.roots.proofs.WholeRoot.{which}
-use Rattle.roots.proofs.Mixed.{Mixed, round-mixed, mixed-normal}
+use Rattle.laws.proofs.Relative.{Rat, positive-nonnegative, nonnegative-value, round-nonnegative, rat-refl, rat-of-eq, rat-mul, rat-trans, rat-weaken, rat-left, rat-right}
+use Rattle.roots.specs.Hypot.{rootAt, sumOfSquares, leastSum, greatestSum, larger, smaller, scaledHypot, fullHypot, hypotOf}
+use Rattle.roots.proofs.Mixed.{round-mixed, mixed-normal}
 use Rattle.roots.proofs.HypotCases.{sum-parts, within-range, full-within, full-above, full-below}
 use Rattle.roots.proofs.HypotSum.{Summed, summed, square-round}
 use Rattle.roots.proofs.HypotRange.{within-floor, above-floor, below-ceiling}
-use Rattle.roots.proofs.HypotParts.{Part, least-value, parts-finite, up-part, down-part, larger-value, smaller-value}
+use Rattle.roots.proofs.HypotParts.{least-value, parts-finite, up-part, down-part, larger-value, smaller-value}
 use Rattle.roots.proofs.HypotRoot.{from-squares, root-close}
 
 -- ---- the sum of the squares of x and y as a fraction

@@ -1,23 +1,23 @@
 -- One part's square, as it is, scaled up by 2^600 or down by 2^-600: what its rounding is of, and that it stays below 2^900. Assumes nothing.
 use mathlib.Core.Path.{_≡_, refl, sym, ap, _∙_, subst}
-use mathlib.Core.Logic.{_⊎_, inl, inr}
-use mathlib.Core.Bool.{Bool, true, false, not, _&&_}
+use mathlib.Core.Logic.{inl, inr}
+use mathlib.Core.Bool.{Bool, true, false, _&&_}
 use Prim.Native.Nat.{ℕ, zero, suc, _+_, _-_, _*_, _%_, _^_, _≤_, _<_, zero-le}
-use native.Mathlib.Nat.{le-trans, le-of-eq, le-of-lt, lt-irrefl, lt-of-le-of-lt, mul-lt-mul-of-pos-right, zero-lt-suc, zero-mul, mul-one, one-mul, mul-assoc, mul-comm, mul-left-comm, mul-right-comm, mul-mul-mul-comm, mul-pos, mul-le-mul, mul-le-mul-left, mul-le-mul-right, le-of-mul-le-mul-right}
+use native.Mathlib.Nat.{le-trans, le-of-eq, le-of-lt, lt-irrefl, lt-of-le-of-lt, mul-lt-mul-of-pos-right, zero-mul, mul-one, one-mul, mul-assoc, mul-comm, mul-mul-mul-comm, mul-pos, mul-le-mul, mul-le-mul-left, mul-le-mul-right}
 use native.Mathlib.Omega.{arith}
-use lib.IntN.{ℤ, pos}
+use lib.IntN.{ℤ}
 use lib.Dec.{T, ltb, leb, eqb, ltb→lt, leb→le, lit<, lit≤}
 use lib.Pow.{pow-add, pow-pos, pow-lt}
 use lib.Ieee.{Float, nan, inf, fin, binary64, up, down, unlike, size, round, neg, add, mul, le, ofBits, fits}
 use lib.Ieee.Exact.{HasValue, round-exact}
-use lib.Ieee.Fits.{up-pos, down-pos, and-l, and-r}
+use lib.Ieee.Fits.{and-l, and-r}
 use lib.Ieee.Order.{round-mono}
-use lib.Ieee.Positive.{num, den, positive, den-pos}
+use lib.Ieee.Positive.{num, den, den-pos}
 use lib.Ieee.Scale.{finite}
 use Rattle.laws.proofs.Value.{sign, own-fraction, le-values}
 use Rattle.laws.proofs.Order.{add-mono, finite-between, round-neg, neg-finite}
 use Rattle.laws.proofs.Power.{mul-value, scale-up, scale-down}
-use Rattle.laws.proofs.Relative.{largest, nonnegative, round-finite, round-nonnegative, nonnegative-finite, nonnegative-value}
+use Rattle.laws.proofs.Relative.{nonnegative, round-finite, round-nonnegative, nonnegative-finite, nonnegative-value}
 use Rattle.roots.specs.Hypot.{larger, smaller}
 use Rattle.roots.proofs.WholeRoot.{which}
 use Rattle.roots.proofs.Mixed.{Mixed, round-mixed}

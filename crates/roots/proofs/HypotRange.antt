@@ -1,12 +1,10 @@
 -- What the place of the rounded sum says of the squares a / c and b / d themselves: at least 2^-1000 together within the range, at most 2^-798 each below it, at least 2^998 together above it. Assumes nothing.
 use mathlib.Core.Path.{_≡_, refl, sym, ap, _∙_, subst}
 use mathlib.Core.Logic.{_⊎_, inl, inr}
-use mathlib.Core.Bool.{Bool, true, false, cond, Bool·beq, true≢false}
-use Prim.Native.Nat.{ℕ, _+_, _-_, _*_, _^_, _≤_, _<_, zero-le}
-use native.Mathlib.Nat.{le-trans, le-of-eq, le-of-lt, zero-mul, mul-one, one-mul, mul-assoc, mul-comm, mul-left-comm, mul-right-comm, mul-pos, add-mul, add-comm, le-add-right, mul-le-mul, mul-le-mul-left, mul-le-mul-right, le-of-mul-le-mul-right}
-use native.Mathlib.Omega.{arith}
-use lib.IntN.{pos}
-use lib.Dec.{T, lit<, lit≤}
+use mathlib.Core.Bool.{false}
+use Prim.Native.Nat.{ℕ, _+_, _*_, _^_, _≤_, _<_, zero-le}
+use native.Mathlib.Nat.{le-trans, le-of-eq, le-of-lt, zero-mul, mul-one, one-mul, mul-assoc, mul-comm, mul-right-comm, add-comm, le-add-right, mul-le-mul-left, mul-le-mul-right, le-of-mul-le-mul-right}
+use lib.Dec.{T, lit≤}
 use lib.Pow.{pow-pos}
 use lib.Ieee.{Float, nan, inf, fin, binary64, size, round, add, le, ofBits}
 use lib.Ieee.Order.{round-mono, le-of-values}

@@ -1,9 +1,9 @@
 -- hypot's root of a normal value: its square is within one part in 2^49 of the value. Assumes nothing.
-use mathlib.Core.Path.{_≡_, refl, sym, ap, _∙_, subst}
-use mathlib.Core.Logic.{_⊎_, inl, inr}
+use mathlib.Core.Path.{_≡_, sym, ap, _∙_, subst}
+use mathlib.Core.Logic.{inl, inr}
 use mathlib.Core.Bool.{false}
-use Prim.Native.Nat.{ℕ, zero, suc, _+_, _-_, _*_, _/_, _%_, _^_, _≤_, _<_}
-use native.Mathlib.Nat.{le-trans, le-of-eq, le-of-lt, lt-of-le-of-lt, lt-of-lt-of-le, lt-irrefl, mul-one, mul-assoc, mul-comm, mul-left-comm, mul-right-comm, mul-mul-mul-comm, mul-pos, mul-le-mul, mul-le-mul-left, mul-le-mul-right, mul-lt-mul-of-pos-right, le-of-mul-le-mul-right, eq-of-mul-eq-mul-right, mod-eq-of-lt, not-le-of-lt, pow-suc}
+use Prim.Native.Nat.{ℕ, zero, suc, _+_, _-_, _*_, _/_, _^_, _≤_, _<_}
+use native.Mathlib.Nat.{le-trans, le-of-eq, lt-of-lt-of-le, lt-irrefl, mul-assoc, mul-comm, mul-left-comm, mul-right-comm, mul-mul-mul-comm, mul-pos, mul-le-mul, mul-le-mul-left, mul-le-mul-right, le-of-mul-le-mul-right, eq-of-mul-eq-mul-right, mod-eq-of-lt, not-le-of-lt, pow-suc}
 use native.Mathlib.Omega.{arith}
 use lib.Dec.{T, lit<, lit≤}
 use lib.Pow.{pow-add, pow-pos, pow-mono}
@@ -12,15 +12,15 @@ use lib.Ieee.Exact.{HasValue}
 use lib.Ieee.Positive.{num, den, positive, den-pos, positive-finite, own-value, value→cross, positive-of-value}
 use Rattle.laws.proofs.Value.{value-same, value-sign}
 use Rattle.laws.proofs.Bits.{infBits, unitsOf, fieldUnits, pattern-value, units-le-back, toBits-finite, toBits-value}
-use Rattle.laws.proofs.Relative.{Rat, Close, largest, positive-num, rat-mul, rat-trans, rat-weaken, rat-of-eq, rat-left, rat-right, rat-le, rat-ge, mul-finite, mul-close}
+use Rattle.laws.proofs.Relative.{Rat, Close, largest, rat-mul, rat-trans, rat-weaken, rat-of-eq, rat-left, rat-right, rat-le, rat-ge, mul-finite, mul-close}
 use Rattle.roots.specs.Seed.{folded, twiceRoot}
 use Rattle.roots.specs.Sqrt.{scaled}
 use Rattle.roots.specs.Hypot.{rootAt}
 use Rattle.roots.proofs.WholeRoot.{which}
 use Rattle.roots.proofs.Nearest.{square-lt}
-use Rattle.roots.proofs.RootPattern.{normalDigits, normalField, normal-split}
-use Rattle.roots.proofs.SeedClose.{scaled-range}
-use Rattle.roots.proofs.Heron.{Doubled, twice-close}
+use Rattle.roots.proofs.RootPattern.{normalField, normal-split}
+use Rattle.roots.proofs.Significand.{scaled-range}
+use Rattle.roots.proofs.Heron.{twice-close}
 
 -- ---- the power of two with the field F
 field-value : (F : ℕ) → 0 < F → F < 2047 → HasValue (ofBits binary64 (F * 2 ^ 52)) false (2 ^ F) (2 ^ 1023)

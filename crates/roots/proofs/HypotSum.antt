@@ -1,19 +1,17 @@
 -- The sum of two squares, one or both of which may underflow: within one part in 2^51 of the sum itself, where that is 2^-1000 at least. Assumes nothing.
-use mathlib.Core.Path.{_≡_, refl, sym, ap, _∙_, subst}
-use mathlib.Core.Bool.{Bool, true, false, not}
+use mathlib.Core.Path.{_≡_, refl, ap, _∙_}
+use mathlib.Core.Bool.{Bool, true, false}
 use Prim.Native.Nat.{ℕ, _+_, _-_, _*_, _^_, _≤_, _<_}
-use native.Mathlib.Nat.{le-trans, le-of-eq, one-mul, mul-assoc, mul-comm, mul-left-comm, mul-right-comm, mul-pos, mul-le-mul, mul-le-mul-left, mul-le-mul-right}
-use native.Mathlib.Omega.{arith}
+use native.Mathlib.Nat.{le-trans, le-of-eq, one-mul, mul-assoc, mul-comm, mul-left-comm, mul-pos, mul-le-mul-left}
 use lib.Dec.{T, lit<, lit≤}
 use lib.Pow.{pow-pos}
-use lib.Ieee.{Float, nan, inf, fin, binary64, unlike, round, add, mul}
+use lib.Ieee.{Float, binary64, unlike, round, add, mul}
 use lib.Ieee.Exact.{HasValue}
 use lib.Ieee.Positive.{num, den, positive, den-pos}
 use lib.Ieee.Scale.{finite}
 use Rattle.laws.proofs.Power.{mul-value}
-use Rattle.laws.proofs.Relative.{Rat, Normal, nonnegative, rat-trans, rat-weaken, normal-of-rat, round-close, round-positive, round-nonnegative, add-round}
-use Rattle.roots.specs.Hypot.{sumOfSquares}
-use Rattle.roots.proofs.Mixed.{Mixed, round-mixed, mixed-sum}
+use Rattle.laws.proofs.Relative.{Rat, Normal, nonnegative, rat-trans, rat-weaken, normal-of-rat, round-close, round-positive, add-round}
+use Rattle.roots.proofs.Mixed.{Mixed, mixed-sum}
 
 -- ---- a square has no minus sign
 like : (s : Bool) → unlike s s ≡ false

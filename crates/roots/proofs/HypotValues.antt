@@ -1,6 +1,6 @@
 -- Facts of `hypotOf` at every value: a zero part leaves the other's magnitude exactly, signs and the parts' order do not matter, and the special values. Assumes nothing.
-use mathlib.Core.Path.{_≡_, refl, sym, ap, _∙_, subst}
-use mathlib.Core.Bool.{Bool, true, false, not, cond}
+use mathlib.Core.Path.{_≡_, refl, sym, ap, _∙_}
+use mathlib.Core.Bool.{Bool, false, cond}
 use Prim.Native.Nat.{ℕ, zero, suc, _*_}
 use native.Mathlib.Nat.{zero-mul}
 use lib.IntN.{ℤ, negsuc}
@@ -9,7 +9,7 @@ use lib.Pow.{pow-pos}
 use lib.Ieee.{Float, nan, inf, fin, binary64, up, down, size, round, neg, add, sub, mul, div, le, fits, ofBits, toBits}
 use lib.Ieee.Exact.{HasValue}
 use Rattle.laws.proofs.Power.{unique}
-use Rattle.laws.proofs.Sign.{neg-neg, mul-neg-l, mul-neg-neg, add-comm-float}
+use Rattle.laws.proofs.Sign.{mul-neg-l, mul-neg-neg, add-comm-float}
 use Rattle.roots.specs.Tables.{constants, slopes, bends}
 use Rattle.roots.specs.Seed.{quadratic, seedOf, twiceRoot}
 use Rattle.roots.specs.Hypot.{rootAt, sumOfSquares, leastSum, greatestSum, larger, smaller, scaledHypot, fullHypot, magnitudeOf, hypotOf}

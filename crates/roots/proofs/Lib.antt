@@ -1,17 +1,18 @@
--- The theorems, by topic.
+-- The theorems, by topic: whole roots, sqrt, the seed and its Heron step, hypot.
 pub mod Arms
 pub mod WholeRoot
-pub mod HypotCases
+pub mod Significand
 pub mod Shape
 pub mod Nearest
 pub mod RootPattern
 pub mod SqrtCases
+pub mod SqrtValues
 pub mod SeedSweep
 pub mod Off
 pub mod SeedClose
 pub mod Heron
 pub mod Corrections
-pub mod SqrtValues
+pub mod HypotCases
 pub mod Mixed
 pub mod HypotRoot
 pub mod HypotSum

@@ -1,25 +1,22 @@
 -- `sqrtOf` of a number above zero is nearer to its root than any other f64 (`sqrt-nearest`), and nothing else is (`sqrt-unique`). Assumes nothing.
-use mathlib.Core.Path.{_≡_, refl, sym, ap, _∙_, subst}
-use mathlib.Core.Logic.{_⊎_, inl, inr}
-use mathlib.Core.Bool.{Bool, true, false, cond}
-use Prim.Native.Nat.{ℕ, zero, suc, _+_, _-_, _*_, _/_, _%_, _^_, _≤_, _<_}
-use native.Mathlib.Nat.{le-trans, le-of-eq, le-antisymm, lt-of-lt-of-le, lt-of-le-of-lt, lt-irrefl, lt-trans, add-comm, mul-one, one-mul, add-assoc, mul-mul-mul-comm, mul-assoc, mul-comm, mul-left-comm, mul-right-comm, add-mul, mul-add, mul-pos, mul-le-mul, mul-le-mul-left, mul-le-mul-right, mul-lt-mul-of-pos-right, mul-lt-mul-of-pos-left, le-of-mul-le-mul-right, lt-of-mul-lt-mul-right, not-le-of-lt}
+use mathlib.Core.Path.{_≡_, sym, ap, _∙_, subst}
+use mathlib.Core.Logic.{inl, inr}
+use mathlib.Core.Bool.{false}
+use Prim.Native.Nat.{ℕ, suc, _+_, _-_, _*_, _^_, _≤_, _<_}
+use native.Mathlib.Nat.{le-trans, le-of-eq, le-antisymm, lt-of-lt-of-le, lt-of-le-of-lt, lt-irrefl, lt-trans, add-comm, mul-one, one-mul, add-assoc, mul-mul-mul-comm, mul-assoc, mul-comm, mul-left-comm, mul-right-comm, add-mul, mul-add, mul-pos, mul-le-mul, mul-le-mul-left, mul-le-mul-right, mul-lt-mul-of-pos-right, lt-of-mul-lt-mul-right}
 use native.Mathlib.Omega.{arith}
-use lib.Dec.{T, ltb, lit<, lit≤}
-use lib.Pow.{pow-add, pow-pos, pow-mono}
-use lib.Count.{leadingZeros, leading-top}
+use lib.Dec.{T, lit<, lit≤}
+use lib.Pow.{pow-add, pow-pos}
 use lib.Ieee.{Float, binary64, ofBits, toBits, lt, fits}
-use lib.Ieee.Bits.{ofBits-toBits, ofBits-fits}
+use lib.Ieee.Bits.{ofBits-fits}
 use lib.Ieee.Exact.{HasValue}
 use lib.Ieee.Positive.{num, den, positive, den-pos, positive-finite, own-value, value→cross, positive-of-value}
-use borrow.Author.Tests.{lt-ltb, le-ltb}
-use Rattle.laws.proofs.Value.{sign, lt-of-values, lt-values, value-sign}
-use Rattle.laws.proofs.Bits.{infBits, unitsOf, fieldUnits, bits-value, units-at, units-le, units-lt-back, bits-positive, toBits-finite, toBits-value}
+use Rattle.laws.proofs.Value.{lt-of-values, lt-values, value-sign}
+use Rattle.laws.proofs.Bits.{unitsOf, units-at, units-le, units-lt-back, toBits-value}
 use Rattle.laws.proofs.Power.{unique}
-use Rattle.roots.specs.Seed.{folded}
-use Rattle.roots.specs.Sqrt.{square, scaled, nearestRoot, sqrtOf, NearestRoot}
+use Rattle.roots.specs.Sqrt.{square, nearestRoot, NearestRoot}
 use Rattle.roots.proofs.WholeRoot.{Nearest, which}
-use Rattle.roots.proofs.Shape.{half, kept, taken-least, taken-most, taken-value, root-nearest, root-least, root-most, pattern-at, sqrt-pattern}
+use Rattle.roots.proofs.Shape.{root-nearest, root-least, root-most, pattern-at}
 
 -- ---- from units to fractions: A / q = P / D and n / d = N / D, so (A / q) ^ 2 against 4 n / d is P * P against 4 N D
 crossed : (A D P q n N d : ℕ) → A * D ≡ P * q → n * D ≡ N * d → (square A * d * (D * D * D) ≡ P * P * D * (q * q * d)) × (4 * n * square q * (D * D * D) ≡ 4 * N * D * D * (q * q * d))

@@ -1,8 +1,8 @@
 -- The absolute error in a fixed unit: `Off K z P E` says that the finite z, with no minus sign, is P / K to within E / K. What one rounding, a sum, a difference and a product add to it. Assumes nothing.
-use mathlib.Core.Path.{_≡_, refl, sym, ap, _∙_, subst}
-use mathlib.Core.Bool.{Bool, false}
+use mathlib.Core.Path.{_≡_, sym, ap, _∙_, subst}
+use mathlib.Core.Bool.{false}
 use Prim.Native.Nat.{ℕ, suc, _+_, _-_, _*_, _^_, _≤_, _<_}
-use native.Mathlib.Nat.{le-trans, le-of-eq, mul-one, mul-assoc, mul-comm, mul-left-comm, mul-right-comm, add-mul, mul-add, add-assoc, add-comm, add-left-comm, mul-pos, mul-le-mul, mul-le-mul-left, mul-le-mul-right, le-of-mul-le-mul-right, eq-of-mul-eq-mul-right, mul-sub}
+use native.Mathlib.Nat.{le-trans, le-of-eq, mul-one, mul-assoc, mul-comm, mul-left-comm, mul-right-comm, add-mul, mul-pos, mul-le-mul-left, mul-le-mul-right, le-of-mul-le-mul-right, eq-of-mul-eq-mul-right, mul-sub}
 use native.Mathlib.Omega.{arith}
 use lib.Dec.{T}
 use lib.Pow.{pow-pos}
@@ -10,7 +10,7 @@ use lib.Ieee.{Float, binary64, round, add, sub, mul}
 use lib.Ieee.Exact.{HasValue}
 use lib.Ieee.Positive.{num, den, den-pos, value→cross}
 use lib.Ieee.Scale.{finite}
-use Rattle.laws.proofs.Relative.{Near, largest, nonnegative, nonnegative-value, nonnegative-of-value, round-finite, round-half, round-nonnegative, add-round, sub-round}
+use Rattle.laws.proofs.Relative.{largest, nonnegative, nonnegative-value, nonnegative-of-value, round-finite, round-half, round-nonnegative, add-round, sub-round}
 use Rattle.laws.proofs.Power.{mul-value}
 
 -- a fraction a / c against P / K

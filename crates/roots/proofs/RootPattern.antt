@@ -1,23 +1,23 @@
 -- The root of a pattern, normal or subnormal: the digits that `sqrtOf` gives and the exponent's field, by the pattern's own numbers. Assumes nothing.
 use mathlib.Core.Path.{_≡_, refl, sym, ap, _∙_, subst}
-use mathlib.Core.Logic.{_⊎_, inl, inr}
-use mathlib.Core.Bool.{Bool, true, false, cond}
+use mathlib.Core.Logic.{inl, inr}
+use mathlib.Core.Bool.{false}
 use Prim.Native.Nat.{ℕ, zero, suc, _+_, _-_, _*_, _/_, _%_, _^_, _≤_, _<_}
-use native.Mathlib.Nat.{le-trans, le-of-eq, lt-of-lt-of-le, lt-of-le-of-lt, lt-trans, zero-lt-suc, mul-one, mul-assoc, mul-le-mul-right, mul-lt-mul-of-pos-right, mod-eq-of-lt, div-eq-of-lt, not-le-of-lt}
+use native.Mathlib.Nat.{le-trans, le-of-eq, lt-of-lt-of-le, lt-trans, zero-lt-suc, mul-one, mul-assoc, mul-le-mul-right, mul-lt-mul-of-pos-right, mod-eq-of-lt, div-eq-of-lt, not-le-of-lt}
 use native.Mathlib.Omega.{arith}
-use lib.Dec.{T, ltb, lit<}
+use lib.Dec.{T, lit<}
 use lib.Pow.{pow-add, pow-pos, pow-mono}
 use lib.Count.{leadingZeros, leading-top}
 use lib.Ieee.{Float, binary64, ofBits, toBits, fits}
 use lib.Ieee.Bits.{ofBits-toBits}
 use lib.Ieee.Exact.{HasValue}
 use lib.Ieee.Positive.{num, den, positive, positive-finite, own-value}
-use borrow.Author.Tests.{lt-ltb, le-ltb}
 use Rattle.laws.proofs.Value.{value-sign}
 use Rattle.laws.proofs.Bits.{infBits, unitsOf, fieldUnits, bits-value, bits-positive, toBits-finite}
 use Rattle.roots.specs.Seed.{folded}
 use Rattle.roots.specs.Sqrt.{scaled, nearestRoot, sqrtOf, NearestRoot}
 use Rattle.roots.proofs.WholeRoot.{which}
+use Rattle.roots.proofs.Significand.{low-scaled, high-scaled, scaled-range}
 use Rattle.roots.proofs.Shape.{half, kept, taken-least, taken-most, taken-value, root-most, sqrt-pattern}
 use Rattle.roots.proofs.Nearest.{pattern-nearest, nearest-one}
 
@@ -29,7 +29,7 @@ kept-scaled M k v l u odd even =
           let z : k % 2 ≡ 0 = omega arith in
           let e : 53 + k - (half k + half k) ≡ 53 = omega arith in
           let w : folded v ≡ M = omega (arith, even z) in
-          ap (λ (t : ℕ). M * 2 ^ t) e ∙ sym (ap (λ (t : ℕ). scaled t * 2 ^ 52) w ∙ ap (λ (b : Bool). cond b (M + 2 ^ 52) (M * 2) * 2 ^ 52) (le-ltb M (2 ^ 52) l) ∙ mul-assoc M 2 (2 ^ 52))
+          ap (λ (t : ℕ). M * 2 ^ t) e ∙ sym (ap (λ (t : ℕ). scaled t * 2 ^ 52) w ∙ ap (λ (t : ℕ). t * 2 ^ 52) (high-scaled M l) ∙ mul-assoc M 2 (2 ^ 52))
       | inr h ↦
           let z : k % 2 ≡ 1 = omega arith in
           let e : 53 + k - (half k + half k) ≡ 52 = omega arith in
@@ -37,7 +37,7 @@ kept-scaled M k v l u odd even =
           let b : M - 2 ^ 52 < 2 ^ 52 = omega arith in
           let g : M - 2 ^ 52 + 2 ^ 52 ≡ M = omega arith in
           ap (λ (t : ℕ). M * 2 ^ t) e
-          ∙ sym (ap (λ (t : ℕ). scaled t * 2 ^ 52) w ∙ ap (λ (c : Bool). cond c (M - 2 ^ 52 + 2 ^ 52) ((M - 2 ^ 52) * 2) * 2 ^ 52) (lt-ltb (M - 2 ^ 52) (2 ^ 52) b) ∙ ap (λ (t : ℕ). t * 2 ^ 52) g)
+          ∙ sym (ap (λ (t : ℕ). scaled t * 2 ^ 52) w ∙ ap (λ (t : ℕ). t * 2 ^ 52) (low-scaled (M - 2 ^ 52) b ∙ g))
     ]
 
 nearest-split : (x : Float) (n M s j k : ℕ) → T (positive x) → HasValue x false n (2 ^ 1074) → n * 2 ^ s ≡ M * 2 ^ j → k + s ≡ 53 + j → 2 ^ 52 ≤ M → M < 2 ^ 53 → 0 < k → k < 2200 → NearestRoot x (sqrtOf x)
@@ -53,15 +53,6 @@ abbrev pub normalField : ℕ → ℕ
 normalField u = (u / 2 ^ 52 + 1021) / 2
 
 -- the root of the significand has 53 digits at most
-scaled-range : (w : ℕ) → w < 2 ^ 53 → (2 ^ 52 ≤ scaled w) × (scaled w ≤ 2 ^ 54 - 2)
-scaled-range w h =
-    elim (which w (2 ^ 52)) [
-      | inl k ↦
-          subst (λ (t : ℕ). (2 ^ 52 ≤ t) × (t ≤ 2 ^ 54 - 2)) (sym (ap (λ (b : Bool). cond b (w + 2 ^ 52) (w * 2)) (lt-ltb w (2 ^ 52) k))) (omega arith)
-      | inr k ↦
-          subst (λ (t : ℕ). (2 ^ 52 ≤ t) × (t ≤ 2 ^ 54 - 2)) (sym (ap (λ (b : Bool). cond b (w + 2 ^ 52) (w * 2)) (le-ltb w (2 ^ 52) k))) (omega arith)
-    ]
-
 pub digits-lt : (u : ℕ) → nearestRoot 53 (normalDigits u) < 2 ^ 53
 digits-lt u =
     let w = folded u in

@@ -1,14 +1,14 @@
 -- The seed and its Heron step against the root: the seed's square is within one part in 2^25 of the argument. Assumes nothing.
 use mathlib.Core.Path.{_≡_, refl, sym, ap, _∙_, subst}
-use mathlib.Core.Logic.{_⊎_, inl, inr}
-use mathlib.Core.Bool.{Bool, true, false, cond}
-use Prim.Native.Nat.{ℕ, zero, suc, _+_, _-_, _*_, _/_, _%_, _^_, _≤_, _<_}
-use native.Mathlib.Nat.{le-trans, le-of-eq, le-of-lt, lt-of-lt-of-le, mul-assoc, mul-comm, mul-left-comm, mul-right-comm, mul-one, add-zero, zero-add, mul-le-mul, mul-le-mul-left, mul-le-mul-right, mul-pos, mul-sub, add-mul, add-sub-cancel-left, le-of-mul-le-mul-right, mul-lt-mul-of-pos-right, sub-le, le-add-right}
+use mathlib.Core.Logic.{inl, inr}
+use mathlib.Core.Bool.{Bool, false, cond}
+use Prim.Native.Nat.{ℕ, _+_, _-_, _*_, _/_, _%_, _^_, _≤_, _<_}
+use native.Mathlib.Nat.{le-trans, le-of-eq, le-of-lt, lt-of-lt-of-le, mul-assoc, mul-comm, mul-left-comm, mul-right-comm, mul-le-mul, mul-le-mul-left, mul-le-mul-right, mul-pos, mul-sub, add-mul, add-sub-cancel-left, le-of-mul-le-mul-right, mul-lt-mul-of-pos-right, sub-le, le-add-right}
 use native.Mathlib.Omega.{arith}
 use lib.Dec.{T, ltb, lit<, lit≤}
 use lib.Pow.{pow-add, pow-pos, pow-mono}
 use lib.ListN.{getD}
-use lib.Ieee.{Float, nan, binary64, round, add, sub, mul, div, ofBits}
+use lib.Ieee.{Float, nan, binary64, round, add, sub, mul, ofBits}
 use lib.Ieee.Exact.{HasValue, round-exact}
 use lib.Ieee.Scale.{round-same}
 use lib.Ieee.Positive.{num, den, positive, den-pos, value→cross}
@@ -20,19 +20,11 @@ use Rattle.roots.specs.Tables.{constants, slopes, bends}
 use Rattle.roots.specs.Seed.{argument, leftEnd, quadratic, seedOf}
 use Rattle.roots.specs.Sqrt.{scaled}
 use Rattle.roots.proofs.WholeRoot.{which}
+use Rattle.roots.proofs.Significand.{low-scaled, high-scaled}
 use Rattle.roots.proofs.Off.{Offset, Off, off-value, off-more, off-add, off-sub, off-mul}
-use Rattle.roots.proofs.SeedSweep.{least, most, parts, scale, leftOf, partOf, wholeAt, Whole, Piece, Accurate, piece-at}
+use Rattle.roots.proofs.SeedSweep.{least, most, parts, scale, leftOf, partOf, wholeAt, Piece, Accurate, piece-at}
 
 -- ---- the argument, the left end and the distance, in units of 2 ^ -52
-low-scaled : (w : ℕ) → w < 2 ^ 52 → scaled w ≡ w + 2 ^ 52
-low-scaled w h = ap (λ (b : Bool). cond b (w + 2 ^ 52) (w * 2)) (lt-ltb w (2 ^ 52) h)
-
-high-scaled : (w : ℕ) → 2 ^ 52 ≤ w → scaled w ≡ w * 2
-high-scaled w h = ap (λ (b : Bool). cond b (w + 2 ^ 52) (w * 2)) (le-ltb w (2 ^ 52) h)
-
-pub scaled-range : (w : ℕ) → w < 2 ^ 53 → (2 ^ 52 ≤ scaled w) × (scaled w ≤ 2 ^ 54 - 2)
-scaled-range w h = elim (which w (2 ^ 52)) [ inl k ↦ (let s = low-scaled w k in (omega arith, omega arith)) | inr k ↦ (let s = high-scaled w k in (omega arith, omega arith)) ]
-
 pub argument-value : (w : ℕ) → w < 2 ^ 53 → HasValue (argument w) false (scaled w) (2 ^ 52)
 argument-value w h =
     elim (which w (2 ^ 52)) [

@@ -1,11 +1,11 @@
 -- The seed's quadratics against the root, by whole numbers: a test on sixteen parts of each of the 128 pieces, computed, says that the square of the exact quadratic is within 38 parts in 2^31 of the argument.
 -- On a part the square is a line and a small rest, so a line above it and one below it at the part's two ends hold between them. Assumes nothing.
 use mathlib.Core.Path.{_≡_, refl, sym, ap, _∙_, subst}
-use mathlib.Core.Logic.{_⊎_, inl, inr}
+use mathlib.Core.Logic.{inl, inr}
 use mathlib.Core.Bool.{Bool, true, false, cond, _&&_}
 use mathlib.Core.List.{List, [], _∷_}
-use Prim.Native.Nat.{ℕ, zero, suc, _+_, _-_, _*_, _/_, _%_, _^_, _≤_, _<_}
-use native.Mathlib.Nat.{le-refl, le-trans, le-of-eq, le-of-lt, mul-mul-mul-comm, mul-assoc, mul-comm, mul-left-comm, mul-right-comm, add-mul, mul-add, mul-le-mul, mul-le-mul-left, mul-le-mul-right, add-assoc, add-comm, add-left-comm, zero-mul, suc-mul, lt-of-lt-of-le, add-zero, zero-add, add-suc, suc-add, le-of-suc-le-suc, not-suc-le-zero}
+use Prim.Native.Nat.{ℕ, zero, suc, _+_, _-_, _*_, _/_, _^_, _≤_, _<_}
+use native.Mathlib.Nat.{le-trans, le-of-eq, le-of-lt, mul-mul-mul-comm, mul-assoc, mul-comm, mul-left-comm, mul-right-comm, add-mul, mul-add, mul-le-mul, mul-le-mul-left, mul-le-mul-right, add-assoc, add-comm, add-left-comm, zero-mul, suc-mul, lt-of-lt-of-le, add-zero, zero-add, add-suc, suc-add, le-of-suc-le-suc, not-suc-le-zero}
 use native.Mathlib.Omega.{arith}
 use lib.Dec.{T, leb, ltb, eqb, leb→le, eqb→eq}
 use lib.Ieee.{Float, nan, ofBits}

@@ -1,13 +1,13 @@
 -- A number above zero as X * 4 ^ F of the square's units, X a whole number of 105 or 106 digits: what `sqrtOf` takes the root of, and the pattern that it gives. Assumes nothing.
 use mathlib.Core.Path.{_≡_, refl, sym, ap, _∙_, subst}
 use mathlib.Core.Logic.{inl, inr}
-use mathlib.Core.Bool.{Bool, true, false}
-use Prim.Native.Nat.{ℕ, zero, suc, _+_, _-_, _*_, _/_, _%_, _^_, _≤_, _<_}
-use native.Mathlib.Nat.{le-trans, le-of-eq, le-antisymm, lt-of-lt-of-le, lt-of-le-of-lt, mul-assoc, mul-comm, mul-left-comm, mul-right-comm, mul-le-mul, mul-le-mul-left, mul-le-mul-right, mul-lt-mul-of-pos-right, le-of-mul-le-mul-right, lt-of-mul-lt-mul-right, mul-div-cancel, eq-of-mul-eq-mul-right, pow-suc, pow-zero, not-le-of-lt}
+use mathlib.Core.Bool.{true, false}
+use Prim.Native.Nat.{ℕ, zero, suc, _+_, _-_, _*_, _/_, _^_, _≤_, _<_}
+use native.Mathlib.Nat.{le-trans, le-of-eq, le-antisymm, lt-of-lt-of-le, lt-of-le-of-lt, mul-assoc, mul-right-comm, mul-le-mul, mul-le-mul-right, mul-lt-mul-of-pos-right, le-of-mul-le-mul-right, lt-of-mul-lt-mul-right, mul-div-cancel, eq-of-mul-eq-mul-right, pow-suc, pow-zero, not-le-of-lt}
 use native.Mathlib.Omega.{arith}
-use lib.Dec.{T, lit<, lit≤}
+use lib.Dec.{T, lit<}
 use lib.Pow.{pow-add, pow-pos, pow-mono}
-use lib.Ieee.{Float, nan, inf, fin, binary64, up, down, size, round, ofBits, fits}
+use lib.Ieee.{Float, nan, inf, fin, binary64, down, size, round, ofBits}
 use lib.Ieee.Digits.{size-lt, size-le}
 use lib.Ieee.Bits.{ofBits-fits}
 use lib.Ieee.Fits.{round-fits, down-pos}

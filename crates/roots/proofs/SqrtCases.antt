@@ -1,7 +1,7 @@
 -- The cases of `sqrtOf` that are no root, by the pattern: the zeros, the infinity, and what is a not-a-number or negative. Assumes nothing.
 use mathlib.Core.Path.{_≡_, refl, sym, ap, _∙_, subst}
 use mathlib.Core.Bool.{true, false}
-use Prim.Native.Nat.{ℕ, zero, suc, _+_, _-_, _*_, _/_, _^_, _≤_, _<_}
+use Prim.Native.Nat.{ℕ, zero, suc, _+_, _-_, _*_, _/_, _^_, _<_}
 use native.Mathlib.Nat.{le-of-lt, le-of-eq, lt-irrefl, lt-of-lt-of-le, not-le-of-lt, zero-mul, zero-div}
 use lib.IntN.{ℤ}
 use lib.Dec.{T}

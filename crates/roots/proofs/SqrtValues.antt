@@ -1,7 +1,7 @@
 -- Worked values of `sqrtOf`, computed: the special values, and roots that are exact, rounded up and rounded down. Assumes nothing.
 use mathlib.Core.Path.{_≡_, refl}
 use mathlib.Core.Bool.{true, false}
-use lib.IntN.{ℤ, pos, negsuc}
+use lib.IntN.{pos, negsuc}
 use lib.Ieee.{nan, inf, fin, binary64, size, round, ofBits}
 use Rattle.roots.specs.Sqrt.{root, nearestRoot, sqrtOf}
 

@@ -1,9 +1,9 @@
 -- The whole number nearest to a root: what says that r is it, that there is one only, that `nearestRoot` is it, and the comparison of squares by halves. Assumes nothing.
-use mathlib.Core.Path.{_≡_, refl, sym, ap, _∙_, subst}
+use mathlib.Core.Path.{_≡_, sym, ap, _∙_, subst}
 use mathlib.Core.Logic.{_⊎_, inl, inr}
 use mathlib.Core.Bool.{Bool, true, false, not, cond}
 use Prim.Native.Nat.{ℕ, zero, suc, _+_, _*_, _/_, _%_, _^_, _≤_, _<_}
-use native.Mathlib.Nat.{le-trans, le-antisymm, mul-le-mul, mul-comm, mul-assoc, mul-left-comm, add-mul, mul-add, mul-one, one-mul, not-le-of-lt, pow-suc, pow-zero, eq-zero-or-pos, mul-pos, lt-of-le-of-lt}
+use native.Mathlib.Nat.{le-antisymm, mul-le-mul, mul-comm, mul-assoc, mul-left-comm, add-mul, mul-add, mul-one, one-mul, pow-suc, pow-zero, lt-of-le-of-lt}
 use native.Mathlib.Omega.{arith}
 use lib.Dec.{T, lit<, leb, ltb, leb→le, nleb→lt, ltb→lt, nltb→le}
 use borrow.Author.Tests.{lt-ltb, le-ltb}

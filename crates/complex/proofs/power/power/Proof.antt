@@ -4,7 +4,6 @@ use Prim.Native.Nat.{_≤_, _-_}
 use native.Mathlib.Omega.{arith}
 use borrow.Author.Needs.{needs}
 use Rattle.complex.specs.Functions.{powerOf}
-use Rattle.complex.specs.Arithmetic.{productOf}
 use Rattle.complex.proofs.PowerFacts.{power-zero, power-next}
 use Rattle.complex.proofs.power.power.Statement.{statement}
 use Rattle.complex.proofs.power.power.Tie as tie

@@ -1,8 +1,7 @@
 -- `roots::hypot::hypot` meets its contract: a sum of squares within the range has finite parts, so that only their zeros are left to tell apart. Assumes nothing.
-use mathlib.Core.Path.{_≡_, sym, subst, _∙_}
-use mathlib.Core.Bool.{false, not}
+use mathlib.Core.Path.{sym, subst, _∙_}
 use lib.Dec.{T}
-use lib.Ieee.{ofBits, isNan}
+use lib.Ieee.{ofBits}
 use lib.Ieee.Scale.{finite}
 use borrow.Author.Needs.{needs}
 use Rattle.laws.proofs.Value.{finite-no-nan}

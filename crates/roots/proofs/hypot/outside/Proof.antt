@@ -1,13 +1,13 @@
 -- `roots::hypot::outside` meets its contract: its tests follow the definition's cases, and a sum not below the range is above it. Assumes nothing.
 use mathlib.Core.Path.{_≡_, sym, _∙_}
-use mathlib.Core.Bool.{Bool, true, false, not, _&&_}
+use mathlib.Core.Bool.{Bool, true, false, _&&_}
 use lib.Dec.{T}
 use lib.Ieee.{ofBits, div}
 use lib.Ieee.Scale.{finite}
 use borrow.Author.Needs.{needs}
 use Rattle.machine.proofs.NotANumber.{equals-itself}
 use Rattle.laws.proofs.Value.{finite-no-nan}
-use Rattle.roots.specs.Hypot.{sumOfSquares, leastSum, greatestSum, larger, smaller, infinite, fullHypot, hypotOf}
+use Rattle.roots.specs.Hypot.{sumOfSquares, leastSum, larger, smaller, infinite, fullHypot, hypotOf}
 use Rattle.roots.proofs.HypotCases.{infinite-left, infinite-right, nan-left, nan-right, finite-of, zero-left, zero-right, full, full-above, full-below}
 use Rattle.roots.proofs.hypot.outside.Statement.{statement}
 use Rattle.roots.proofs.hypot.outside.Tie as tie

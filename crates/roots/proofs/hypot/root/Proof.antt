@@ -1,5 +1,4 @@
 -- `roots::hypot::root` meets its contract: the power's field is at most (2047 + 1021) / 2, so it is that of a finite number. Assumes nothing.
-use mathlib.Core.Path.{refl}
 use native.Mathlib.Omega.{arith}
 use borrow.Author.Needs.{needs}
 use Rattle.laws.proofs.Bits.{bits-no-nan}

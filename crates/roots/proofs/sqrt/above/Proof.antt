@@ -1,6 +1,5 @@
 -- `roots::sqrt::above` meets its contract: with s below 2^55 the half above 2^26 is below 2^29, so no product wraps. Assumes nothing.
-use mathlib.Core.Path.{_≡_}
-use Prim.Native.Nat.{ℕ, _+_, _*_, _/_, _%_, _^_, _≤_, _<_}
+use Prim.Native.Nat.{ℕ, _*_, _/_, _%_, _^_, _≤_, _<_}
 use native.Mathlib.Nat.{mul-le-mul}
 use native.Mathlib.Omega.{arith}
 use Rattle.roots.proofs.WholeRoot.{halves}

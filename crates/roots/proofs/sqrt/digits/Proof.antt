@@ -1,13 +1,12 @@
 -- `roots::sqrt::digits` meets its contract: the two arms give the scaled significand, which has 53 or 54 digits. Assumes nothing.
 use mathlib.Core.Path.{_≡_, sym, ap, _∙_, subst}
 use mathlib.Core.Logic.{⊎-elim}
-use mathlib.Core.Bool.{Bool, cond}
 use Prim.Native.Nat.{ℕ, _+_, _*_, _%_, _^_, _≤_, _<_}
 use native.Mathlib.Omega.{arith}
 use borrow.Author.Needs.{needs}
-use borrow.Author.Tests.{lt-ltb, le-ltb}
 use Rattle.roots.specs.Seed.{folded}
 use Rattle.roots.specs.Sqrt.{scaled, nearestRoot}
+use Rattle.roots.proofs.Significand.{low-scaled, high-scaled}
 use Rattle.roots.proofs.sqrt.digits.Statement.{statement}
 use Rattle.roots.proofs.sqrt.digits.Tie as tie
 
@@ -26,20 +25,14 @@ estimate-requires c κs = search needs
 same : (u : ℕ) → (u % 2 ^ 53 + 2 ^ 52) % 2 ^ 53 ≡ folded u
 same u = omega arith
 
-low : (w : ℕ) → w < 2 ^ 52 → w + 2 ^ 52 ≡ scaled w
-low w h = sym (ap (λ (b : Bool). cond b (w + 2 ^ 52) (w * 2)) (lt-ltb w (2 ^ 52) h))
-
-high : (w : ℕ) → 2 ^ 52 ≤ w → w * 2 ≡ scaled w
-high w h = sym (ap (λ (b : Bool). cond b (w + 2 ^ 52) (w * 2)) (le-ltb w (2 ^ 52) h))
-
 number : (c : tie.Joined1) → (c .if1 .n ≡ scaled (folded (c .before .args .u))) × (0 < c .if1 .n) × (c .if1 .n < 2 ^ 54)
 number c =
     let u = c .before .args .u in
     let n = c .if1 .n in
     let w = (u % 2 ^ 53 + 2 ^ 52) % 2 ^ 53 in
     ⊎-elim
-    (λ a. let e : n ≡ w + 2 ^ 52 = a .1 in let h : w < 2 ^ 52 = a .0 .taken in (e ∙ low w h ∙ ap scaled (same u), omega arith, omega arith))
-    (λ a. let e : n ≡ w * 2 = a .1 in let h : 2 ^ 52 ≤ w = a .0 .left in (e ∙ high w h ∙ ap scaled (same u), omega arith, omega arith))
+    (λ a. let e : n ≡ w + 2 ^ 52 = a .1 in let h : w < 2 ^ 52 = a .0 .taken in (e ∙ sym (low-scaled w h) ∙ ap scaled (same u), omega arith, omega arith))
+    (λ a. let e : n ≡ w * 2 = a .1 in let h : 2 ^ 52 ≤ w = a .0 .left in (e ∙ sym (high-scaled w h) ∙ ap scaled (same u), omega arith, omega arith))
     (c .if1 .came)
 
 raised-requires : tie.Need-raised-requires

@@ -1,6 +1,6 @@
 -- `roots::sqrt::estimate` meets its contract: by the accuracy of the seed, of the Heron step and of its roundings. Assumes nothing.
-use mathlib.Core.Path.{_≡_, sym, ap, subst}
-use Prim.Native.Nat.{ℕ, _+_, _-_, _*_, _^_, _≤_}
+use mathlib.Core.Path.{sym, subst}
+use Prim.Native.Nat.{_+_, _-_, _*_, _^_, _≤_}
 use lib.Dec.{T}
 use mathlib.Core.Bool.{not}
 use lib.Ieee.{Float, binary64, toBits, isNan}

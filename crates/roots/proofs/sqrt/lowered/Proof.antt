@@ -1,7 +1,6 @@
 -- `roots::sqrt::lowered` meets its contract: each turn brings s nearer to the nearest whole root, and never below it. The measure, at most 3 at first, is how far it has to go. Assumes nothing.
 use mathlib.Core.Path.{sym, _∙_}
-use Prim.Native.Nat.{ℕ, _+_, _-_, _*_, _^_, _<_, _≤_}
-use native.Mathlib.Nat.{le-antisymm}
+use Prim.Native.Nat.{_+_, _-_, _*_, _^_, _<_, _≤_}
 use native.Mathlib.Omega.{arith}
 use borrow.Author.Tests.{ltb-true, ltb-false, not-true, not-false}
 use Rattle.roots.specs.Sqrt.{nearestRoot}

@@ -1,14 +1,14 @@
 -- `roots::sqrt::sqrt` meets its contract: the pattern tells the cases of the definition apart. Assumes nothing.
 use mathlib.Core.Path.{_≡_, sym, ap, _∙_, subst}
-use Prim.Native.Nat.{ℕ, _+_, _*_, _/_, _^_, _≤_, _<_}
+use Prim.Native.Nat.{ℕ, _+_, _*_, _^_, _≤_, _<_}
 use native.Mathlib.Omega.{arith}
 use lib.Dec.{T}
 use lib.Arith.{lt-of-le-ne}
-use lib.Ieee.{Float, binary64, ofBits, fits}
+use lib.Ieee.{binary64, ofBits, fits}
 use lib.Ieee.Bits.{ofBits-toBits}
 use borrow.Author.Needs.{needs}
 use Rattle.laws.proofs.Bits.{infBits, bits-no-nan}
-use Rattle.roots.specs.Sqrt.{nearestRoot, sqrtOf}
+use Rattle.roots.specs.Sqrt.{sqrtOf}
 use Rattle.roots.proofs.RootPattern.{normalField, digits-lt, sqrt-normal}
 use Rattle.roots.proofs.SqrtCases.{sqrt-zero, sqrt-infinite, sqrt-minus-zero, sqrt-nan}
 use Rattle.roots.proofs.sqrt.sqrt.Statement.{statement}

@@ -1,6 +1,6 @@
 //! oracle ENTRY COUNT SEED: compares an entry point of libcapi.a (log_gamma, i, k) with the Rust text, bit for bit: values, counts, refusal numbers and every
 //! cell of a buffer that was filled with rubbish first. ENTRY `text-i` or `text-k` compares the text with its counted copy alone. The structured inputs come first
-//! where there are any, then COUNT random ones by SEED. A difference prints the call in hexadecimal and fails the run. At the end: refusals by number, the largest
+//! where there are any, then COUNT random ones by SEED. `record` in the place of an ENTRY prints COUNT recorded answers of log-gamma, for a replay without Rust. A difference prints the call in hexadecimal and fails the run. At the end: refusals by number, the largest
 //! counts, and how often each branch was taken; a branch that the domain reaches and the run did not is a failure too.
 
 mod draw;
@@ -122,14 +122,32 @@ fn short(o: &reference::Outcome) -> String {
     format!("number {} zeros {} sum {} rungs {} backward {} cells {}", o.number, o.zeros, o.longest_sum, o.rungs, o.backward, cells.join(" "))
 }
 
+/// Every edge, thinned to a quarter of COUNT, and random arguments: the argument, the text's number and the value's bits.
+fn record(count: u64, d: &mut Draw) {
+    let edges = draw::log_gamma_edges();
+    let step = (edges.len() as u64 * 4 / count.max(4)).max(1) as usize;
+    let mut xs: Vec<f64> = edges.iter().enumerate().filter(|(i, _)| *i < 12 || i % step == 0).map(|(_, x)| *x).collect();
+    while (xs.len() as u64) < count {
+        xs.push(draw::log_gamma_argument(d));
+    }
+    for x in xs {
+        let ((number, value), _) = reference::log_gamma(x).unwrap_or_else(|e| differs(e));
+        println!("log_gamma {:016X} {number} {value:016X}", x.to_bits());
+    }
+}
+
 fn main() {
     let a: Vec<String> = std::env::args().skip(1).collect();
     let (Some(entry), Some(count), Some(seed)) = (a.first(), a.get(1).and_then(|s| s.parse::<u64>().ok()), a.get(2).and_then(|s| s.parse::<u64>().ok())) else {
-        eprintln!("usage: oracle log_gamma|i|k|text-i|text-k COUNT SEED");
+        eprintln!("usage: oracle log_gamma|i|k|text-i|text-k|record COUNT SEED");
         exit(2);
     };
-    println!("oracle {entry}: {count} random calls by the seed {seed}");
     let mut d = Draw::new(seed);
+    if entry == "record" {
+        record(count, &mut d);
+        return;
+    }
+    println!("oracle {entry}: {count} random calls by the seed {seed}");
     let mut t = Tally { calls: 0, compared: 0, by_number: [0; 11], branches: [0; 64], longest: [0; 3] };
     let name = entry.trim_start_matches("text-");
     match name {

@@ -1,0 +1,7 @@
+// Links the archive that tools/host/archive.sh wrote.
+fn main() {
+    let here = std::env::var("CARGO_MANIFEST_DIR").unwrap();
+    println!("cargo:rustc-link-search=native={here}/../../target/host");
+    println!("cargo:rustc-link-lib=static=capi");
+    println!("cargo:rerun-if-changed={here}/../../target/host/libcapi.a");
+}

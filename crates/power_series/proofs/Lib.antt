@@ -1,3 +1,9 @@
 -- The theorems, by topic.
 pub mod SumBound
 pub mod VisitBound
+pub mod SumRun
+pub mod SumEnds
+pub mod FillFacts
+pub mod StepFacts
+pub mod WalkFacts
+pub mod VisitSums

@@ -5,6 +5,7 @@ use Prim.Native.Nat.{ℕ}
 use lib.Ieee.{Float, binary64, ofBits, add, mul, div, lt}
 use Rattle.laws.specs.Iterate.{iterate}
 use Rattle.machine.specs.Constants.{tolerance}
+use Rattle.power_series.specs.declared.sum.Estimate.{Estimate}
 
 -- 1 and 2
 abbrev pub one : Float
@@ -13,12 +14,7 @@ one = ofBits binary64 0x3FF0000000000000
 abbrev pub two : Float
 two = ofBits binary64 0x4000000000000000
 
--- the loop's state, apart from the term and the sum themselves
-pub record Estimate : Type 0 where
-  pub error : Float
-  pub denominator : Float
-  pub step : Float
-
+-- the loop's state, apart from the term and the sum themselves: the error, the denominator and its step
 unfoldable pub startEstimate : Float → Estimate
 startEstimate u = record { error = two; denominator = u; step = add binary64 u two }
 

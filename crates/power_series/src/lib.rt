@@ -1,1 +1,9 @@
-// The I series: the sum at one order and the downward visit, after src/amos/power_series.rs (ZSERI) and DLMF 10.25.2.
+// The I series: the sum at one order, the downward visit over the orders, and the small arguments that need neither.
+// After src/amos/power_series.rs (ZSERI) and DLMF 10.25.2.
+pub mod fill;
+pub mod ground;
+pub mod series;
+pub mod step;
+pub mod sum;
+pub mod tiny;
+pub mod visit;

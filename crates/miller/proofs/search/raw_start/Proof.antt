@@ -1,0 +1,32 @@
+-- `miller::search::raw_start` meets its contract: the real path takes no correction. Assumes nothing.
+use mathlib.Core.Path.{sym, _∙_}
+use Rattle.miller.specs.Search.{rawStart}
+use borrow.Author.Needs.{needs}
+use Rattle.miller.proofs.search.raw_start.Statement.{statement}
+use Rattle.miller.proofs.search.raw_start.Tie as tie
+use Rattle.miller.proofs.search.raw_start.Reads as reads
+use Rattle.miller.proofs.search.raw_start.Lts as lts
+use Rattle.miller.proofs.point.is_real.Reads as is-real-reads
+use Rattle.miller.proofs.search.angle_correction.Reads as angle-correction-reads
+
+int-to-float-raw : tie.Need-int-to-float-raw
+int-to-float-raw c = search needs
+
+is-real-requires : tie.Need-is-real-requires
+is-real-requires c κs = search needs
+
+returns : tie.Need-returns
+unfolding rawStart
+returns c = simp (sym (c .before .is-real .ensures) ∙ c .if1 .taken)
+
+angle-correction-requires : tie.Need-angle-correction-requires
+angle-correction-requires c κs = search needs
+
+returns-2 : tie.Need-returns-2
+unfolding rawStart
+returns-2 c = simp (c .angle-correction .ensures, sym (c .before .before .is-real .ensures) ∙ c .before .if1 .left)
+
+pub raw-start-spec : {M : Type 1} → statement M
+raw-start-spec =
+    tie.close
+    (tie.spec int-to-float-raw is-real-requires returns angle-correction-requires returns-2)

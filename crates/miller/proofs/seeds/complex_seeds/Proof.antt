@@ -1,0 +1,64 @@
+-- `miller::seeds::complex_seeds` meets its contract: the definition's operations, one after the other. Assumes nothing.
+use Rattle.miller.specs.Seeds.{complexFirstSeed, complexSeeds}
+use borrow.Author.Needs.{needs}
+use Rattle.miller.proofs.seeds.complex_seeds.Statement.{statement}
+use Rattle.miller.proofs.seeds.complex_seeds.Tie as tie
+use Rattle.miller.proofs.seeds.complex_seeds.Reads as reads
+use Rattle.miller.proofs.seeds.complex_seeds.Lts as lts
+use Rattle.complex.proofs.number.Complex.conjugate.Reads as conjugate-reads
+use Rattle.complex.proofs.number.Complex.over_real.Reads as over-real-reads
+use Rattle.complex.proofs.number.Complex.product.Reads as product-reads
+use Rattle.miller.proofs.backward.complex_steps.Reads as complex-steps-reads
+use Rattle.miller.proofs.seeds.complex_second.Reads as complex-second-reads
+use Rattle.roots.proofs.hypot.hypot.Reads as hypot-reads
+
+complex-steps-requires : tie.Need-complex-steps-requires
+complex-steps-requires c κs = search needs
+
+hypot-requires : tie.Need-hypot-requires
+hypot-requires c κs = search needs
+
+conjugate-requires : tie.Need-conjugate-requires
+conjugate-requires c κs = search needs
+
+over-real-requires : tie.Need-over-real-requires
+over-real-requires c κs = search needs
+
+over-real-requires-2 : tie.Need-over-real-requires-2
+over-real-requires-2 c κs = search needs
+
+product-requires : tie.Need-product-requires
+product-requires c κs = search needs
+
+product-requires-2 : tie.Need-product-requires-2
+product-requires-2 c κs = search needs
+
+complex-second-requires : tie.Need-complex-second-requires
+complex-second-requires c κs = search needs
+
+returns : tie.Need-returns
+unfolding complexSeeds complexFirstSeed
+returns c = simp (
+  c .complex-second .ensures,
+  c .before .product2 .ensures,
+  c .before .before .product .ensures,
+  c .before .before .before .over-real2 .ensures,
+  c .before .before .before .before .over-real .ensures,
+  c .before .before .before .before .before .conjugate .ensures,
+  c .before .before .before .before .before .before .hypot .ensures,
+  c .before .before .before .before .before .before .before .before .before .complex-steps .ensures,
+)
+
+pub complex-seeds-spec : {M : Type 1} → statement M
+complex-seeds-spec =
+    tie.close
+    (tie.spec
+    complex-steps-requires
+    hypot-requires
+    conjugate-requires
+    over-real-requires
+    over-real-requires-2
+    product-requires
+    product-requires-2
+    complex-second-requires
+    returns)

@@ -1,0 +1,8 @@
+-- The whole part of a finite value's magnitude. Definitions only.
+use Prim.Native.Nat.{ℕ, _/_}
+use lib.Ieee.{Float}
+use lib.Ieee.Positive.{num, den}
+
+-- of a value in (-1, 0) it is 0
+unfoldable pub truncated : Float → ℕ
+truncated x = num x / den x

@@ -1,0 +1,92 @@
+-- Every sum that a visit begins, after refusal 5's test, leaves by its own test, after 19 terms at most: each order at which a seed is still wanted is one that the visit reaches past zeroed orders and past one seed. Assumes nothing.
+use mathlib.Core.Path.{_≡_, refl, sym, ap, _∙_, subst}
+use mathlib.Core.Bool.{Bool, true, false}
+use Prim.Native.Nat.{ℕ, suc, _+_, _-_, _^_, _≤_, _<_}
+use native.Mathlib.Omega.{arith}
+use lib.Dec.{ltb}
+use lib.Ieee.{Float, lt}
+use borrow.Author.Tests.{lt-ltb, le-ltb}
+use Rattle.laws.specs.Run.{run}
+use Rattle.laws.proofs.Run.{run-ends}
+use Rattle.laws.proofs.Bound.{Up}
+use Rattle.complex.specs.declared.number.Complex.{Complex}
+use Rattle.power_series.specs.declared.ground.Ground.{Ground}
+use Rattle.power_series.specs.declared.step.Descent.{Descent}
+use Rattle.power_series.specs.Error.{sumIsOne}
+use Rattle.power_series.specs.Orders.{orderAt, orderPlusOne, halfSquare, beyondSeries}
+use Rattle.power_series.specs.Ground.{groundOf}
+use Rattle.power_series.specs.Step.{startDescent, stepOf}
+use Rattle.power_series.specs.Visit.{Walk, startWalk, isStopped, withEntry, nextWalk}
+use Rattle.power_series.proofs.VisitBound.{Reached, start, past-zero, past-seed, visited, reached-low, reached-below}
+use Rattle.power_series.proofs.StepFacts.{Zeroed, Kept, Did, zeroed, kept, recurred, did}
+use Rattle.power_series.proofs.WalkFacts.{stopping, stepping}
+use Rattle.power_series.proofs.SumEnds.{EndsByTest, sum-ends}
+
+-- the visit of n orders after i of them, or where it stopped before
+abbrev pub walkAfter : Ground → ℕ → ℕ → Walk
+walkAfter g n i = run stopping (stepping g) i 0 (startWalk n)
+
+-- a seed is wanted at the next order, v + (left - 1)
+pub record Wanted (w : Walk) : Type 0 where
+  pub on : w .reached .state .stopped ≡ false
+  pub more : 0 < w .reached .left
+  pub seeds : w .reached .state .registers .seeded < 2
+
+module _ (g : Ground) (m : Float) (n : ℕ) (square : g .«abs_half_z_sq» ≡ halfSquare m) (passed : beyondSeries (g .order) n m ≡ false) where
+  abbrev Open : Walk → Type 0
+  Open w = Wanted w → Reached (g .order) n m (w .reached .left - 1) (ltb 0 (w .reached .state .registers .seeded))
+
+  opens : Open (startWalk n)
+  unfolding startWalk startDescent
+  opens h = start passed
+
+  module _ (left : ℕ) (s t : Descent) (before : s .registers .seeded < 2 → Reached (g .order) n m (left - 1) (ltb 0 (s .registers .seeded))) where
+    down : (k : ℕ) {b : Bool} → left - 1 ≡ suc k → Reached (g .order) n m (left - 1) b → Reached (g .order) n m (suc k) b
+    down k {b} e r = subst (λ (j : ℕ). Reached (g .order) n m j b) e r
+
+    by-zero : (k : ℕ) → left - 1 ≡ suc k → Zeroed g (left - 1) s t → t .stopped ≡ false → Reached (g .order) n m k (ltb 0 (t .registers .seeded))
+    by-zero k e z o =
+        let below : lt (orderAt (g .order) (suc k)) (halfSquare m) ≡ false =
+        ap (λ (j : ℕ). lt (orderAt (g .order) j) (halfSquare m)) (sym e) ∙ ap (lt (orderAt (g .order) (left - 1))) (sym square) ∙ sym (z .stopped) ∙ o in
+        subst (λ (q : ℕ). Reached (g .order) n m k (ltb 0 q)) (sym (z .seeded)) (past-zero below (down k e (before (z .open-seed))))
+
+    by-seed : (k : ℕ) → left - 1 ≡ suc k → Kept s t → t .registers .seeded < 2 → Reached (g .order) n m k (ltb 0 (t .registers .seeded))
+    by-seed k e z h =
+        let count : t .registers .seeded ≡ s .registers .seeded + 1 = z .seeded in
+        let none : ltb 0 (s .registers .seeded) ≡ false = le-ltb 0 (s .registers .seeded) (omega arith) in
+        let one : ltb 0 (t .registers .seeded) ≡ true = lt-ltb 0 (t .registers .seeded) (omega arith) in
+        subst (λ (b : Bool). Reached (g .order) n m k b) (sym one) (past-seed (down k e (subst (λ (b : Bool). Reached (g .order) n m (left - 1) b) none (before (z .open-seed)))))
+
+    by-way : (k : ℕ) → left - 1 ≡ suc k → Did g (left - 1) s t → t .stopped ≡ false → t .registers .seeded < 2 → Reached (g .order) n m k (ltb 0 (t .registers .seeded))
+    by-way k e (zeroed z) o h = by-zero k e z o
+    by-way k e (kept z) o h = by-seed k e z h
+    by-way k e (recurred z) o h = absurd (full (s .registers .seeded) (t .registers .seeded) (z .both) (z .seeded) h)
+      where
+        full : (a b : ℕ) → 2 ≤ a → b ≡ a → b < 2 → ⊥
+        full a b p q r = omega arith
+
+  keeps : (i : ℕ) (w : Walk) → isStopped w ≡ false → Open w → Open (nextWalk g w)
+  unfolding isStopped nextWalk withEntry
+  keeps i w e o h =
+      let left = w .reached .left in
+      let s = w .reached .state in
+      let t = stepOf g (left - 1) s in
+      let more : 0 < left - 1 = h .more in
+      by-way left s t (λ q. o (record { on = e; more = omega arith; seeds = q })) (left - 1 - 1) (omega arith) (did g (left - 1) s) (h .on) (h .seeds)
+
+  pub wanted-reached : (i : ℕ) → Wanted (walkAfter g n i) → Reached (g .order) n m (walkAfter g n i .reached .left - 1) (ltb 0 (walkAfter g n i .reached .state .registers .seeded))
+  wanted-reached i = run-ends stopping (stepping g) (λ j w. Open w) keeps i 0 (startWalk n) opens .holds
+
+-- the visit at z, of modulus m, over n orders from v up: wherever it wants a seed and its sum is not 1 at once
+pub visit-sums-end :
+    (scaled turned : Bool) (v : Float) (z : Complex) (m : Float) (n : ℕ) → Up v 1000 1 → Up m (2 ^ 16) 1 → n ≤ 512 → beyondSeries v n m ≡ false →
+    (i : ℕ) → Wanted (walkAfter (groundOf scaled turned v z m) n i) →
+    sumIsOne (halfSquare m) (orderPlusOne v (walkAfter (groundOf scaled turned v z m) n i .reached .left - 1)) ≡ false →
+    EndsByTest (groundOf scaled turned v z m .«half_z_sq») (halfSquare m) (orderPlusOne v (walkAfter (groundOf scaled turned v z m) n i .reached .left - 1))
+unfolding groundOf
+visit-sums-end scaled turned v z m n limit bound few passed i h e =
+    let g = groundOf scaled turned v z m in
+    let k = walkAfter g n i .reached .left - 1 in
+    let r : Reached v n m k (ltb 0 (walkAfter g n i .reached .state .registers .seeded)) = wanted-reached g m n refl passed i h in
+    sum-ends (g .«half_z_sq») (halfSquare m) (orderPlusOne v k)
+    (visited v limit k (ltb 0 (walkAfter g n i .reached .state .registers .seeded)) (halfSquare m) (reached-low v limit n few m bound r) (reached-below v limit n few m bound r) e)

@@ -1,0 +1,16 @@
+-- `power_series::step::zeroed` meets its contract. Assumes nothing.
+use mathlib.Core.Path.{refl}
+use Rattle.power_series.specs.Step.{zeroedOf}
+use borrow.Author.Needs.{needs}
+use Rattle.power_series.proofs.step.zeroed.Statement.{statement}
+use Rattle.power_series.proofs.step.zeroed.Tie as tie
+
+add-t5 : tie.Need-add-t5
+add-t5 c = search needs
+
+returns : tie.Need-returns
+unfolding zeroedOf
+returns c = refl
+
+pub zeroed-spec : {M : Type 1} → statement M
+zeroed-spec = tie.close (tie.spec add-t5 returns)

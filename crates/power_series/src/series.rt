@@ -1,0 +1,29 @@
+// The power series over n orders: the small arguments apart, the downward visit otherwise. From src/amos/power_series.rs, i_power_series (ZSERI).
+// Promised: powerSeriesOf of specs/Series.antt, record and cells. It asks what refusals 1 and 5 leave: an even number of cells, 2 to 1024 of them.
+ghost use mathlib.Core.Path.{_≡_};
+ghost use Prim.Native.Nat.{_/_, _%_, _≤_, _<_};
+ghost use lib.ListN.{length};
+ghost use Rattle.power_series.specs.Series.{powerSeriesOf};
+use crate::ground::prepare;
+use crate::tiny::tiny;
+use crate::visit::Visit;
+use crate::visit::downward;
+use complex::number::Complex;
+use machine::constants::Machine;
+
+pub fn power_series(
+    scaled: bool,
+    turned: bool,
+    order: f64,
+    z: Complex,
+    modulus: f64,
+    out: &mut [f64],
+) -> Visit
+    requires { ⌜ (0 < length (now out)) × (length (now out) % 2 ≡ 0) × (length (now out) ≤ 1024) ⌝ }
+    ensures { λ r. ⌜ (r ≡ powerSeriesOf scaled turned order z modulus (length (now (out .entry)) / 2) .visit) × (now (out .exit) ≡ powerSeriesOf scaled turned order z modulus (length (now (out .entry)) / 2) .cells) ⌝ }
+{
+    if modulus < Machine::UNDERFLOW_LIMIT {
+        return tiny(order, modulus, out);
+    }
+    downward(prepare(scaled, turned, order, z, modulus), out)
+}

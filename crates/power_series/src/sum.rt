@@ -1,0 +1,99 @@
+// The sum at one order, 1 + w/u + w²/(2 u (u + 1)) + .. with w = (z/2)² and u the order plus one: DLMF 10.25.2 without its leading factor.
+// From src/amos/power_series.rs, single_n_iteration. Promised: sumOf of specs/Sum.antt, with the number of terms after the leading 1.
+// The bound of 19 terms never decides: a sum that a visit begins leaves by its own test by then (proofs/VisitSums.antt).
+ghost use mathlib.Core.Path.{_≡_};
+ghost use Prim.Native.Nat.{_<_};
+ghost use Rattle.power_series.specs.Sum.{startSum, nextSum, sumFrom, sumOf};
+use complex::number::Complex;
+use machine::constants::Machine;
+
+pub struct Sum {
+    pub value: Complex,
+    pub terms: u32,
+}
+
+// The error estimate, the denominator of the next term, and by how much that grows.
+pub struct Estimate {
+    pub error: f64,
+    pub denominator: f64,
+    pub step: f64,
+}
+
+// A sum under way, its last term, and how many terms are in it.
+pub struct Partial {
+    pub value: Complex,
+    pub term: Complex,
+    pub estimate: Estimate,
+    pub terms: u32,
+}
+
+fn start(order_plus_one: f64) -> Partial
+    ensures { λ r. ⌜ r ≡ startSum «order_plus_one» ⌝ }
+{
+    let one = Complex { re: 1.0, im: 0.0 };
+    Partial {
+        value: one,
+        term: one,
+        estimate: Estimate {
+            error: 2.0,
+            denominator: order_plus_one,
+            step: order_plus_one + 2.0,
+        },
+        terms: 0,
+    }
+}
+
+fn next(half_z_sq: Complex, abs_half_z_sq: f64, s: Partial) -> Partial
+    requires { ⌜ s .terms < 19 ⌝ }
+    ensures { λ r. ⌜ r ≡ nextSum «half_z_sq» «abs_half_z_sq» s ⌝ }
+{
+    let e = s.estimate;
+    let value = s.value;
+    let last = s.term;
+    let reciprocal = 1.0 / e.denominator;
+    let term = last.product(half_z_sq.times_real(reciprocal));
+    Partial {
+        value: value.plus(term),
+        term,
+        estimate: Estimate {
+            error: e.error * (abs_half_z_sq * reciprocal),
+            denominator: e.denominator + e.step,
+            step: e.step + 2.0,
+        },
+        terms: s.terms + 1,
+    }
+}
+
+fn run(half_z_sq: Complex, abs_half_z_sq: f64, order_plus_one: f64, tolerance: f64) -> Partial
+    ensures { λ r. ⌜ r ≡ sumFrom «half_z_sq» «abs_half_z_sq» «order_plus_one» tolerance ⌝ }
+{
+    let mut s = start(order_plus_one);
+    while s.terms < 19 {
+        let e = s.estimate;
+        if e.error > tolerance {
+            s = next(half_z_sq, abs_half_z_sq, s);
+        } else {
+            return s;
+        }
+    }
+    s
+}
+
+pub fn single_n_iteration(order: f64, half_z_sq: Complex, abs_half_z_sq: f64) -> Sum
+    ensures { λ r. ⌜ r ≡ sumOf order «half_z_sq» «abs_half_z_sq» ⌝ }
+{
+    let order_plus_one = order + 1.0;
+    if abs_half_z_sq < Machine::TOLERANCE * order_plus_one {
+        return Sum {
+            value: Complex { re: 1.0, im: 0.0 },
+            terms: 0,
+        };
+    }
+    let tolerance = Machine::TOLERANCE * abs_half_z_sq / order_plus_one;
+    let s = run(half_z_sq, abs_half_z_sq, order_plus_one, tolerance);
+    let value = s.value;
+    Sum {
+        value,
+        terms: s.terms,
+    }
+}

@@ -1,0 +1,124 @@
+-- The plain climb: one rung more, its end, two climbs in a row; each rung is counted once, and the state moves at most twice. Assumes nothing.
+use mathlib.Core.Path.{_≡_, refl, sym, ap, _∙_}
+use mathlib.Core.Bool.{Bool, true, false, cond}
+use Prim.Native.Nat.{ℕ, zero, suc, _+_, _-_, _≤_, _<_}
+use native.Mathlib.Nat.{add-zero, zero-add, add-suc, suc-add}
+use native.Mathlib.Omega.{arith}
+use lib.Dec.{lit≤}
+use lib.Ieee.{Float}
+use Rattle.laws.proofs.Run.{run-out, run-on, run-next, run-end}
+use Rattle.complex.specs.declared.number.Complex.{Complex}
+use Rattle.complex.specs.Arithmetic.{timesReal}
+use Rattle.recurrence.specs.State.{reciprocalOf, movedOn, placeOf}
+use Rattle.recurrence.specs.Rung.{factorOf, nextOf, passes, movedClimb, rungOf}
+use Rattle.recurrence.specs.Climb.{never, climbFrom, movesFrom}
+use Rattle.recurrence.specs.declared.state.OverflowState.{OverflowState}
+use Rattle.recurrence.specs.declared.state.OverflowState.the-variants.{NearUnder, None, NearOver}
+use Rattle.recurrence.specs.declared.state.Climb.{Climb}
+use Rattle.recurrence.specs.declared.state.Rung.{Rung}
+
+module _ (twoOverZ : Complex) (baseOrder : Float) where
+  pub climb-out : (i : ℕ) (c : Climb) → climbFrom twoOverZ baseOrder i 0 c ≡ c
+  unfolding climbFrom
+  climb-out i c = run-out never _ i c
+
+  pub climb-on : (i n : ℕ) (c : Climb) → climbFrom twoOverZ baseOrder i (suc n) c ≡ climbFrom twoOverZ baseOrder (suc i) n (rungOf twoOverZ baseOrder i c .climb)
+  unfolding climbFrom
+  climb-on i n c = run-on never _ n i c refl
+
+  -- as the code counts
+  pub climb-start : (from n : ℕ) (c : Climb) → climbFrom twoOverZ baseOrder from n c ≡ climbFrom twoOverZ baseOrder from (from + n - from) c
+  climb-start from n c = ap (λ (k : ℕ). climbFrom twoOverZ baseOrder from k c) (same from n)
+    where
+      same : (a n : ℕ) → n ≡ a + n - a
+      same a n = omega arith
+
+  pub climb-next : (i to : ℕ) (c : Climb) → i < to → climbFrom twoOverZ baseOrder i (to - i) c ≡ climbFrom twoOverZ baseOrder (i + 1) (to - (i + 1)) (rungOf twoOverZ baseOrder i c .climb)
+  unfolding climbFrom
+  climb-next i to c h = run-next never _ to i c h refl
+
+  pub climb-end : (i to : ℕ) (c : Climb) → to ≤ i → climbFrom twoOverZ baseOrder i (to - i) c ≡ c
+  unfolding climbFrom
+  climb-end i to c h = run-end never _ to i c h
+
+  -- ---- each rung is counted once
+  pub rung-counted : (i : ℕ) (c : Climb) → rungOf twoOverZ baseOrder i c .climb .rungs ≡ c .rungs + 1
+  unfolding rungOf movedClimb
+  rung-counted i c = either (passes (c .state) entry)
+    where
+      next : Complex
+      next = nextOf (factorOf twoOverZ baseOrder i) (c .older) (c .newer)
+
+      entry : Complex
+      entry = timesReal next (reciprocalOf (c .state))
+
+      either : (b : Bool) → cond b (movedClimb (c .newer) entry (c .state) (c .rungs + 1)) (record { older = c .newer; newer = next; state = c .state; rungs = c .rungs + 1 }) .rungs ≡ c .rungs + 1
+      either true = refl
+      either false = refl
+
+  pub rungs-climbed : (i n : ℕ) (c : Climb) → climbFrom twoOverZ baseOrder i n c .rungs ≡ c .rungs + n
+  rungs-climbed i zero c = ap (λ (d : Climb). d .rungs) (climb-out i c) ∙ sym (add-zero (c .rungs))
+  rungs-climbed i (suc n) c =
+      ap (λ (d : Climb). d .rungs) (climb-on i n c) ∙ rungs-climbed (suc i) n (rungOf twoOverZ baseOrder i c .climb) ∙ more (rungOf twoOverZ baseOrder i c .climb .rungs) (c .rungs) n (rung-counted i c)
+    where
+      more : (a b n : ℕ) → a ≡ b + 1 → a + n ≡ b + suc n
+      more a b n e = omega arith
+
+  -- two climbs in a row are one
+  pub climb-again : (i m n : ℕ) (c : Climb) → climbFrom twoOverZ baseOrder (i + m) n (climbFrom twoOverZ baseOrder i m c) ≡ climbFrom twoOverZ baseOrder i (m + n) c
+  climb-again i zero n c =
+      ap (λ (k : ℕ). climbFrom twoOverZ baseOrder k n (climbFrom twoOverZ baseOrder i 0 c)) (add-zero i)
+      ∙ ap (climbFrom twoOverZ baseOrder i n) (climb-out i c)
+      ∙ ap (λ (k : ℕ). climbFrom twoOverZ baseOrder i k c) (sym (zero-add n))
+  climb-again i (suc m) n c =
+      ap (λ (k : ℕ). climbFrom twoOverZ baseOrder k n (climbFrom twoOverZ baseOrder i (suc m) c)) (add-suc i m ∙ sym (suc-add i m))
+      ∙ ap (climbFrom twoOverZ baseOrder (suc i + m) n) (climb-on i m c)
+      ∙ climb-again (suc i) m n (rungOf twoOverZ baseOrder i c .climb)
+      ∙ sym (ap (λ (k : ℕ). climbFrom twoOverZ baseOrder i k c) (suc-add m n) ∙ climb-on i (m + n) c)
+
+  -- ---- the state moves one place on at a time, and at most twice
+  rung-place : (i : ℕ) (c : Climb) → placeOf (rungOf twoOverZ baseOrder i c .climb .state) ≡ cond (rungOf twoOverZ baseOrder i c .moved) 1 0 + placeOf (c .state)
+  unfolding rungOf movedClimb placeOf movedOn passes
+  rung-place i c = each (c .state) (passes (c .state) entry) refl
+    where
+      next : Complex
+      next = nextOf (factorOf twoOverZ baseOrder i) (c .older) (c .newer)
+
+      entry : Complex
+      entry = timesReal next (reciprocalOf (c .state))
+
+      each : (s : OverflowState) (b : Bool) → passes s entry ≡ b
+          → placeOf (cond b (movedClimb (c .newer) entry s (c .rungs + 1)) (record { older = c .newer; newer = next; state = s; rungs = c .rungs + 1 }) .state) ≡ cond b 1 0 + placeOf s
+      each NearUnder true e = refl
+      each NearUnder false e = refl
+      each None true e = refl
+      each None false e = refl
+      each NearOver true e = let z : _≡_ {A = ℕ} 0 1 = ap (λ (b : Bool). cond b 1 0) e in absurd (never-one z)
+        where
+          never-one : _≡_ {A = ℕ} 0 1 → ⊥
+          never-one z = omega arith
+      each NearOver false e = refl
+
+  pub moves-counted : (i n : ℕ) (c : Climb) → placeOf (climbFrom twoOverZ baseOrder i n c .state) ≡ movesFrom twoOverZ baseOrder i n c + placeOf (c .state)
+  unfolding movesFrom
+  moves-counted i zero c = ap (λ (d : Climb). placeOf (d .state)) (climb-out i c) ∙ sym (zero-add (placeOf (c .state)))
+  moves-counted i (suc n) c =
+      let r = rungOf twoOverZ baseOrder i c in
+      ap (λ (d : Climb). placeOf (d .state)) (climb-on i n c)
+      ∙ moves-counted (suc i) n (r .climb)
+      ∙ more (placeOf (r .climb .state)) (cond (r .moved) 1 0) (placeOf (c .state)) (movesFrom twoOverZ baseOrder (suc i) n (r .climb)) (rung-place i c)
+    where
+      more : (p b q m : ℕ) → p ≡ b + q → m + p ≡ b + m + q
+      more p b q m e = omega arith
+
+  pub two-moves : (i n : ℕ) (c : Climb) → movesFrom twoOverZ baseOrder i n c ≤ 2
+  unfolding placeOf
+  two-moves i n c = few (placeOf (climbFrom twoOverZ baseOrder i n c .state)) (movesFrom twoOverZ baseOrder i n c) (placeOf (c .state)) (last (climbFrom twoOverZ baseOrder i n c .state)) (moves-counted i n c)
+    where
+      last : (s : OverflowState) → placeOf s ≤ 2
+      last NearUnder = lit≤ tt
+      last None = lit≤ tt
+      last NearOver = lit≤ tt
+
+      few : (p m q : ℕ) → p ≤ 2 → p ≡ m + q → m ≤ 2
+      few p m q h e = omega arith

@@ -1,0 +1,6 @@
+-- The definitions, by topic.
+pub mod Climb
+pub mod First
+pub mod Rung
+pub mod State
+pub mod Trial

@@ -1,0 +1,43 @@
+-- The three states of scale of a climb, and what each fixes. Definitions only.
+use Prim.Native.Nat.{ℕ}
+use lib.Ieee.{Float, binary64, ofBits, div}
+use Rattle.machine.specs.Constants.{tolerance, inverseTolerance, absoluteApproximationLimit}
+use Rattle.recurrence.specs.declared.state.OverflowState.{OverflowState}
+use Rattle.recurrence.specs.declared.state.OverflowState.the-variants.{NearUnder, None, NearOver}
+
+-- 1, and the largest f64
+abbrev pub one : Float
+one = ofBits binary64 0x3FF0000000000000
+
+abbrev pub largest : Float
+largest = ofBits binary64 0x7FEFFFFFFFFFFFFF
+
+-- 2^52, 1, 2^-52
+unfoldable pub scaleOf : OverflowState → Float
+scaleOf NearUnder = inverseTolerance
+scaleOf None = one
+scaleOf NearOver = tolerance
+
+-- 2^-52, 1, 2^52
+unfoldable pub reciprocalOf : OverflowState → Float
+reciprocalOf NearUnder = tolerance
+reciprocalOf None = one
+reciprocalOf NearOver = inverseTolerance
+
+-- A, 1/A, the largest f64
+unfoldable pub boundaryOf : OverflowState → Float
+boundaryOf NearUnder = absoluteApproximationLimit
+boundaryOf None = div binary64 one absoluteApproximationLimit
+boundaryOf NearOver = largest
+
+-- one place on
+unfoldable pub movedOn : OverflowState → OverflowState
+movedOn NearUnder = None
+movedOn None = NearOver
+movedOn NearOver = NearOver
+
+-- its place among the three
+unfoldable pub placeOf : OverflowState → ℕ
+placeOf NearUnder = 0
+placeOf None = 1
+placeOf NearOver = 2

@@ -23,8 +23,8 @@ module _ {A : Type 0} (step : A → A) (a k : ℕ) where
   pub rest-none : (s : A) → a ≤ k → iterate (a - k) step s ≡ s
   rest-none s h = ap (λ (n : ℕ). iterate n step s) (sub-eq-zero-of-le h) ∙ iterate-zero step s
 
-  pub rest-whole : (first : A) → k ≤ a → iterate (a - k) step (iterate k step first) ≡ iterate a step first
-  rest-whole first h = sym (iterate-add (a - k) k step first) ∙ ap (λ (n : ℕ). iterate n step first) (all a k h)
+  pub rest-whole : (s first : A) → s ≡ iterate k step first → k ≤ a → iterate (a - k) step s ≡ iterate a step first
+  rest-whole s first e h = ap (iterate (a - k) step) e ∙ sym (iterate-add (a - k) k step first) ∙ ap (λ (n : ℕ). iterate n step first) (all a k h)
     where
       all : (a k : ℕ) → k ≤ a → a - k + k ≡ a
       all a k h = omega arith

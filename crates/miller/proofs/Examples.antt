@@ -1,7 +1,7 @@
 -- Raw starts at the edges, by computation: what is cut off behind the point, and where the refusal begins. Assumes nothing.
 use mathlib.Core.Path.{_≡_, refl}
-use mathlib.Core.Bool.{false, true}
-use lib.Ieee.{Float, nan, inf, binary64, ofBits, neg, lt}
+use mathlib.Core.Bool.{false}
+use lib.Ieee.{nan, inf, binary64, ofBits, neg, lt}
 use Rattle.miller.specs.declared.search.Start.the-variants.{At, Unmet}
 use Rattle.miller.specs.Whole.{truncated}
 use Rattle.miller.specs.Search.{isStart, startFrom}

@@ -12,7 +12,7 @@ use Rattle.miller.specs.declared.search.Start.{Start}
 use Rattle.miller.specs.declared.search.Start.the-variants.{At, Unmet}
 use Rattle.roots.specs.Sqrt.{sqrtOf}
 use Rattle.miller.specs.Point.{isReal, pointOf}
-use Rattle.miller.specs.Search.{startFrom, rawStart, corrected, convergenceTest, byRecurrence, flattened, curveOf, precisionOf, formulaOf, startOf}
+use Rattle.miller.specs.Search.{startFrom, rawStart, corrected, convergenceTest, byRecurrence, curveOf, precisionOf, formulaOf, startOf}
 use Rattle.miller.specs.Backward.{onRealLine}
 use Rattle.miller.specs.Seeds.{realSeeds, seedsFrom, seedsAt, seedsOf}
 

@@ -1,7 +1,7 @@
 -- What a raw start gives: a start of at most 256 exactly between -1 and 257, and else none. Assumes nothing.
-use mathlib.Core.Path.{_≡_, refl, sym, ap, _∙_, subst}
+use mathlib.Core.Path.{_≡_, refl, sym, _∙_, subst}
 use mathlib.Core.Bool.{Bool, true, false, cond, _&&_, true≢false}
-use Prim.Native.Nat.{ℕ, _+_, _*_, _/_, _≤_, _<_}
+use Prim.Native.Nat.{ℕ, _*_, _/_, _≤_, _<_}
 use native.Mathlib.Nat.{le-of-suc-le-suc, div-eq-of-lt, div-lt-iff-lt-mul, le-div-iff-mul-le}
 use native.Mathlib.Omega.{arith}
 use borrow.Author.Tests.{ltb-true, le-leb, lt-leb}

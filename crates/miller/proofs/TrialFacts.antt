@@ -1,10 +1,9 @@
 -- The trials of the start search as the loop takes them: one trial more, the first that meets the test, and none. Assumes nothing.
-use mathlib.Core.Path.{_≡_, refl, sym, ap, _∙_}
-use Prim.Native.Nat.{ℕ, suc, _+_, _≤_, _<_}
+use mathlib.Core.Path.{_≡_}
+use Prim.Native.Nat.{ℕ, _+_, _≤_, _<_}
 use native.Mathlib.Numerals.{add-one}
 use borrow.Author.Tests.{le-leb, lt-leb}
 use lib.Ieee.{Float}
-use Rattle.miller.specs.declared.trials.Trial.{Trial}
 use Rattle.miller.specs.declared.search.Start.the-variants.{At, Unmet}
 use Rattle.miller.specs.Trials.{nextTrial, trialAfter, trialsTaken, trialIndex}
 

@@ -2,9 +2,8 @@
 use mathlib.Core.Bool.{Bool, cond}
 use lib.Ieee.{Float, binary64, ofBits, eq}
 use Rattle.complex.specs.declared.number.Complex.{Complex}
-use Rattle.complex.specs.Functions.{argumentOf}
+use Rattle.complex.specs.Functions.{modulusOf, argumentOf}
 use Rattle.roots.specs.Sqrt.{sqrtOf}
-use Rattle.roots.specs.Hypot.{hypotOf}
 use Rattle.miller.specs.declared.point.Point.{Point}
 
 -- a zero imaginary part, -0 too
@@ -18,4 +17,4 @@ complexPoint z modulus = record { z = z; modulus = modulus; root = sqrtOf modulu
 unfoldable pub pointOf : Complex → Point
 pointOf z =
     cond (isReal z) (record { z = z; modulus = z .re; root = sqrtOf (z .re); angle = ofBits binary64 0 })
-    (complexPoint z (hypotOf (z .re) (z .im)))
+    (complexPoint z (modulusOf z))

@@ -5,7 +5,7 @@ use lib.Dec.{leb}
 use lib.Ieee.{Float, binary64, ofBits, neg, lt, le}
 use lib.Ieee.Scale.{finite}
 use Rattle.machine.specs.Constants.{tolerance}
-use Rattle.laws.specs.Operators.{_⊕_, _⊖_, _⊗_, _⊘_}
+use Rattle.laws.specs.Operators.{_⊕_, _⊗_, _⊘_}
 use Rattle.roots.specs.Sqrt.{sqrtOf}
 use Rattle.logarithm.specs.Ln.{lnOf}
 use Rattle.circular.specs.Cos.{cosOf}

@@ -2,9 +2,10 @@
 use Prim.Native.Nat.{ℕ}
 use mathlib.Core.Bool.{Bool, cond}
 use lib.Ieee.{Float, binary64, ofBits, neg}
-use Rattle.laws.specs.Operators.{_⊕_, _⊖_, _⊗_, _⊘_}
-use Rattle.roots.specs.Hypot.{magnitudeOf, hypotOf}
+use Rattle.laws.specs.Operators.{_⊕_, _⊗_, _⊘_}
+use Rattle.roots.specs.Hypot.{magnitudeOf}
 use Rattle.complex.specs.declared.number.Complex.{Complex}
+use Rattle.complex.specs.Functions.{modulusOf}
 use Rattle.complex.specs.Arithmetic.{oppositeOf, conjugateOf, productOf, quotientOf, overReal, plusReal}
 use Rattle.refusal.specs.declared.refusal.Refusal.the-variants.{Start}
 use Rattle.miller.specs.declared.point.Point.{Point}
@@ -40,14 +41,14 @@ realSeeds x order coefficient alone start =
 -- w over v is the product of w / |v| with the conjugate of v over |v|
 unfoldable pub complexSecond : Bool → Complex → Float → ComplexSteps → Complex → Complex
 complexSecond alone z fraction s first =
-    let length = hypotOf (s .newer .re) (s .newer .im) in
+    let length = modulusOf (s .newer) in
     let ratio = productOf (overReal (s .older) length) (overReal (conjugateOf (s .newer)) length) in
     cond alone (onRealLine (ofBits binary64 0))
     (productOf (plusReal (quotientOf (plusReal (plusReal (oppositeOf ratio) fraction) half) z) one) first)
 
 unfoldable pub complexFirstSeed : ComplexSteps → Complex → Complex
 complexFirstSeed s coefficient =
-    let length = hypotOf (s .sum .re) (s .sum .im) in
+    let length = modulusOf (s .sum) in
     productOf (overReal (s .newer) length) (productOf coefficient (overReal (conjugateOf (s .sum)) length))
 
 unfoldable pub complexSeeds : Complex → Order → Complex → Bool → ℕ → Miller

@@ -3,7 +3,6 @@
 ghost use mathlib.Core.Path.{_≡_};
 ghost use Rattle.miller.specs.Point.{isReal, pointOf};
 use complex::number::Complex;
-use roots::hypot::hypot;
 use roots::sqrt::sqrt;
 
 // An argument, its modulus, which is its real part on the real path, the root of that, and the angle, which the real path does not ask for.
@@ -39,7 +38,7 @@ pub fn at(z: Complex) -> Point
             angle: 0.0,
         };
     }
-    let modulus = hypot(z.re, z.im);
+    let modulus = z.modulus();
     Point {
         z,
         modulus,

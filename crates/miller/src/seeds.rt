@@ -14,7 +14,6 @@ use crate::search::search;
 use crate::whole::magnitude;
 use complex::number::Complex;
 use refusal::refusal::Refusal;
-use roots::hypot::hypot;
 
 pub struct Miller {
     pub first: Complex,
@@ -70,7 +69,7 @@ fn complex_second(
     }
     let newer = s.newer;
     let older = s.older;
-    let length = hypot(newer.re, newer.im);
+    let length = newer.modulus();
     let ratio = older
         .over_real(length)
         .product(newer.conjugate().over_real(length));
@@ -84,7 +83,7 @@ fn complex_seeds(z: Complex, order: Order, coefficient: Complex, alone: bool, st
     let s = complex_steps(z, order.distance, start);
     let newer = s.newer;
     let sum = s.sum;
-    let length = hypot(sum.re, sum.im);
+    let length = sum.modulus();
     let turned = sum.conjugate().over_real(length);
     let first = newer.over_real(length).product(coefficient.product(turned));
     let second = complex_second(alone, z, order.fraction, s, first);

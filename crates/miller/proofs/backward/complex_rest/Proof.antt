@@ -8,9 +8,6 @@ use Rattle.miller.specs.Backward.{complexStep}
 use Rattle.miller.proofs.BackwardFacts.{rest-next, rest-none}
 use Rattle.miller.proofs.backward.complex_rest.Statement.{statement}
 use Rattle.miller.proofs.backward.complex_rest.Tie as tie
-use Rattle.miller.proofs.backward.complex_rest.Reads as reads
-use Rattle.miller.proofs.backward.complex_rest.Lts as lts
-use Rattle.miller.proofs.backward.complex_step.Reads as complex-step-reads
 
 abbrev Inv-loop : tie.InvT-loop
 Inv-loop z distance start s₀ s = (s .steps ≤ start) × (iterate (start - s .steps) (complexStep z distance) s ≡ iterate (start - s₀ .steps) (complexStep z distance) s₀)

@@ -3,13 +3,6 @@ use Rattle.miller.specs.Backward.{shareOf, complexNext, complexStep}
 use borrow.Author.Needs.{needs}
 use Rattle.miller.proofs.backward.complex_step.Statement.{statement}
 use Rattle.miller.proofs.backward.complex_step.Tie as tie
-use Rattle.miller.proofs.backward.complex_step.Reads as reads
-use Rattle.miller.proofs.backward.complex_step.Lts as lts
-use Rattle.complex.proofs.number.Complex.minus.Reads as minus-reads
-use Rattle.complex.proofs.number.Complex.plus.Reads as plus-reads
-use Rattle.complex.proofs.number.Complex.plus_real.Reads as plus-real-reads
-use Rattle.complex.proofs.number.Complex.product.Reads as product-reads
-use Rattle.complex.proofs.number.Complex.times_real.Reads as times-real-reads
 
 plus-real-requires : tie.Need-plus-real-requires
 plus-real-requires c κs = search needs

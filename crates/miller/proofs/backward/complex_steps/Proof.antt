@@ -11,11 +11,6 @@ use Rattle.miller.specs.Backward.{onRealLine, complexFirst, complexStep,
 use Rattle.miller.proofs.BackwardFacts.{rest-whole}
 use Rattle.miller.proofs.backward.complex_steps.Statement.{statement}
 use Rattle.miller.proofs.backward.complex_steps.Tie as tie
-use Rattle.miller.proofs.backward.complex_steps.Reads as reads
-use Rattle.miller.proofs.backward.complex_steps.Lts as lts
-use Rattle.miller.proofs.backward.complex_rest.Reads as complex-rest-reads
-use Rattle.miller.proofs.backward.real_part.Reads as real-part-reads
-use Rattle.miller.proofs.backward.with_real_part.Reads as with-real-part-reads
 
 abbrev Inv-loop : tie.InvT-loop
 Inv-loop z distance start s₀ s = (s .steps ≤ start) × (s ≡ iterate (s .steps) (complexStep z distance) (complexFirst start))
@@ -41,9 +36,7 @@ unfolding complexSteps
 returns c =
     let args = c .before .before .before .before .before .before .before .args in
     let loop = c .before .before .before .before .before .loop in
-    let n = loop .s .steps in
-    let step = complexStep (args .z) (args .distance) in
-    c .complex-rest .ensures ∙ ap (λ (t : ComplexSteps). iterate (args .start - n) step t) (loop .inv .1) ∙ rest-whole step (args .start) n (complexFirst (args .start)) (loop .inv .0)
+    c .complex-rest .ensures ∙ rest-whole (complexStep (args .z) (args .distance)) (args .start) (loop .s .steps) (loop .s) (complexFirst (args .start)) (loop .inv .1) (loop .inv .0)
 
 with-real-part-requires : tie.Need-with-real-part-requires Inv-loop μ-loop
 with-real-part-requires c κs = (omega arith, c .before .real-part .ensures)

@@ -4,8 +4,6 @@ use Rattle.complex.specs.Arithmetic.{minusOf, productOf, timesReal, plusReal}
 use Rattle.miller.specs.Backward.{shareOf, complexNext}
 use Rattle.miller.proofs.backward.real_part.Statement.{statement}
 use Rattle.miller.proofs.backward.real_part.Tie as tie
-use Rattle.miller.proofs.backward.real_part.Reads as reads
-use Rattle.miller.proofs.backward.real_part.Lts as lts
 
 returns : tie.Need-returns
 unfolding complexNext shareOf minusOf productOf timesReal plusReal

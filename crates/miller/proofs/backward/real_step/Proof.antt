@@ -4,8 +4,6 @@ use Rattle.miller.specs.Backward.{shareOf, realNext, realStep}
 use borrow.Author.Needs.{needs}
 use Rattle.miller.proofs.backward.real_step.Statement.{statement}
 use Rattle.miller.proofs.backward.real_step.Tie as tie
-use Rattle.miller.proofs.backward.real_step.Reads as reads
-use Rattle.miller.proofs.backward.real_step.Lts as lts
 
 add-t15 : tie.Need-add-t15
 add-t15 c = search needs

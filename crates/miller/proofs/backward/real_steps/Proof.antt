@@ -10,9 +10,6 @@ use Rattle.miller.specs.declared.backward.RealSteps.{RealSteps}
 use Rattle.miller.specs.Backward.{realFirst, realStep, realSteps}
 use Rattle.miller.proofs.backward.real_steps.Statement.{statement}
 use Rattle.miller.proofs.backward.real_steps.Tie as tie
-use Rattle.miller.proofs.backward.real_steps.Reads as reads
-use Rattle.miller.proofs.backward.real_steps.Lts as lts
-use Rattle.miller.proofs.backward.real_step.Reads as real-step-reads
 
 abbrev Inv-loop : tie.InvT-loop
 Inv-loop x distance start s₀ s = (s .steps ≤ start) × (s ≡ iterate (s .steps) (realStep x distance) (realFirst start))

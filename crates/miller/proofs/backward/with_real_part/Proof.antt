@@ -4,8 +4,6 @@ use Rattle.miller.specs.Backward.{shareOf, complexNext, complexStep}
 use borrow.Author.Needs.{needs}
 use Rattle.miller.proofs.backward.with_real_part.Statement.{statement}
 use Rattle.miller.proofs.backward.with_real_part.Tie as tie
-use Rattle.miller.proofs.backward.with_real_part.Reads as reads
-use Rattle.miller.proofs.backward.with_real_part.Lts as lts
 
 add-t21 : tie.Need-add-t21
 add-t21 c = search needs

@@ -4,12 +4,6 @@ use Rattle.miller.specs.Point.{complexPoint, pointOf}
 use borrow.Author.Needs.{needs}
 use Rattle.miller.proofs.point.at.Statement.{statement}
 use Rattle.miller.proofs.point.at.Tie as tie
-use Rattle.miller.proofs.point.at.Reads as reads
-use Rattle.miller.proofs.point.at.Lts as lts
-use Rattle.complex.proofs.number.Complex.argument.Reads as argument-reads
-use Rattle.miller.proofs.point.is_real.Reads as is-real-reads
-use Rattle.roots.proofs.hypot.hypot.Reads as hypot-reads
-use Rattle.roots.proofs.sqrt.sqrt.Reads as sqrt-reads
 
 is-real-requires : tie.Need-is-real-requires
 is-real-requires c κs = search needs
@@ -21,8 +15,8 @@ returns : tie.Need-returns
 unfolding pointOf
 returns c = simp (c .sqrt .ensures, sym (c .before .before .is-real .ensures) ∙ c .before .if1 .taken)
 
-hypot-requires : tie.Need-hypot-requires
-hypot-requires c κs = search needs
+modulus-requires : tie.Need-modulus-requires
+modulus-requires c κs = search needs
 
 sqrt-requires-2 : tie.Need-sqrt-requires-2
 sqrt-requires-2 c κs = search needs
@@ -35,7 +29,7 @@ unfolding pointOf complexPoint
 returns-2 c = simp (
   c .argument .ensures,
   c .before .sqrt2 .ensures,
-  c .before .before .hypot .ensures,
+  c .before .before .modulus .ensures,
   sym (c .before .before .before .before .is-real .ensures) ∙ c .before .before .before .if1 .left,
 )
 
@@ -46,7 +40,7 @@ at-spec =
     is-real-requires
     sqrt-requires
     returns
-    hypot-requires
+    modulus-requires
     sqrt-requires-2
     argument-requires
     returns-2)

@@ -3,8 +3,6 @@ use mathlib.Core.Path.{refl}
 use Rattle.miller.specs.Point.{isReal}
 use Rattle.miller.proofs.point.is_real.Statement.{statement}
 use Rattle.miller.proofs.point.is_real.Tie as tie
-use Rattle.miller.proofs.point.is_real.Reads as reads
-use Rattle.miller.proofs.point.is_real.Lts as lts
 
 returns : tie.Need-returns
 unfolding isReal

@@ -3,9 +3,6 @@ use Rattle.miller.specs.Search.{threshold, angleCorrection}
 use borrow.Author.Needs.{needs}
 use Rattle.miller.proofs.search.angle_correction.Statement.{statement}
 use Rattle.miller.proofs.search.angle_correction.Tie as tie
-use Rattle.miller.proofs.search.angle_correction.Reads as reads
-use Rattle.miller.proofs.search.angle_correction.Lts as lts
-use Rattle.roots.proofs.sqrt.sqrt.Reads as sqrt-reads
 
 sqrt-requires : tie.Need-sqrt-requires
 sqrt-requires c κs = search needs

@@ -5,11 +5,6 @@ use Rattle.miller.specs.Search.{corrected, convergenceTest, byRecurrence
 use borrow.Author.Needs.{needs}
 use Rattle.miller.proofs.search.by_recurrence.Statement.{statement}
 use Rattle.miller.proofs.search.by_recurrence.Tie as tie
-use Rattle.miller.proofs.search.by_recurrence.Reads as reads
-use Rattle.miller.proofs.search.by_recurrence.Lts as lts
-use Rattle.miller.proofs.search.raw_start.Reads as raw-start-reads
-use Rattle.miller.proofs.search.start_from.Reads as start-from-reads
-use Rattle.miller.proofs.trials.trial_index.Reads as trial-index-reads
 
 returns : tie.Need-returns
 unfolding byRecurrence convergenceTest tolerance

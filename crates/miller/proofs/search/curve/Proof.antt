@@ -4,10 +4,6 @@ use Rattle.miller.specs.Search.{flattened, curveOf}
 use borrow.Author.Needs.{needs}
 use Rattle.miller.proofs.search.curve.Statement.{statement}
 use Rattle.miller.proofs.search.curve.Tie as tie
-use Rattle.miller.proofs.search.curve.Reads as reads
-use Rattle.miller.proofs.search.curve.Lts as lts
-use Rattle.circular.proofs.cos.cos.Reads as cos-reads
-use Rattle.miller.proofs.point.is_real.Reads as is-real-reads
 
 is-real-requires : tie.Need-is-real-requires
 is-real-requires c κs = search needs

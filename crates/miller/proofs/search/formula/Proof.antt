@@ -4,11 +4,6 @@ use Rattle.miller.specs.Search.{precisionOf, formulaOf}
 use borrow.Author.Needs.{needs}
 use Rattle.miller.proofs.search.formula.Statement.{statement}
 use Rattle.miller.proofs.search.formula.Tie as tie
-use Rattle.miller.proofs.search.formula.Reads as reads
-use Rattle.miller.proofs.search.formula.Lts as lts
-use Rattle.logarithm.proofs.ln.ln.Reads as ln-reads
-use Rattle.miller.proofs.search.curve.Reads as curve-reads
-use Rattle.roots.proofs.sqrt.sqrt.Reads as sqrt-reads
 
 sqrt-requires : tie.Need-sqrt-requires
 sqrt-requires c κs = search needs

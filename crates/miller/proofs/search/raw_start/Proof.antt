@@ -4,10 +4,6 @@ use Rattle.miller.specs.Search.{rawStart}
 use borrow.Author.Needs.{needs}
 use Rattle.miller.proofs.search.raw_start.Statement.{statement}
 use Rattle.miller.proofs.search.raw_start.Tie as tie
-use Rattle.miller.proofs.search.raw_start.Reads as reads
-use Rattle.miller.proofs.search.raw_start.Lts as lts
-use Rattle.miller.proofs.point.is_real.Reads as is-real-reads
-use Rattle.miller.proofs.search.angle_correction.Reads as angle-correction-reads
 
 int-to-float-raw : tie.Need-int-to-float-raw
 int-to-float-raw c = search needs

@@ -3,11 +3,6 @@ use Rattle.miller.specs.Search.{threshold, startOf}
 use borrow.Author.Needs.{needs}
 use Rattle.miller.proofs.search.search.Statement.{statement}
 use Rattle.miller.proofs.search.search.Tie as tie
-use Rattle.miller.proofs.search.search.Reads as reads
-use Rattle.miller.proofs.search.search.Lts as lts
-use Rattle.miller.proofs.search.by_recurrence.Reads as by-recurrence-reads
-use Rattle.miller.proofs.search.formula.Reads as formula-reads
-use Rattle.miller.proofs.search.start_from.Reads as start-from-reads
 
 by-recurrence-requires : tie.Need-by-recurrence-requires
 by-recurrence-requires c κs = search needs

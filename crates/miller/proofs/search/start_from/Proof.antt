@@ -4,9 +4,6 @@ use Rattle.miller.specs.declared.search.Start.the-variants.{At}
 use Rattle.miller.proofs.StartFacts.{within, start-at, start-low, start-high}
 use Rattle.miller.proofs.search.start_from.Statement.{statement}
 use Rattle.miller.proofs.search.start_from.Tie as tie
-use Rattle.miller.proofs.search.start_from.Reads as reads
-use Rattle.miller.proofs.search.start_from.Lts as lts
-use Rattle.miller.proofs.whole.whole_part.Reads as whole-part-reads
 
 whole-part-requires : tie.Need-whole-part-requires
 whole-part-requires c κs = within (c .before .before .args .raw) (c .before .if1 .taken) (c .if2 .taken)

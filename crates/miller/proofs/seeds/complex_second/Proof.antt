@@ -4,22 +4,13 @@ use Rattle.miller.specs.Seeds.{complexSecond}
 use borrow.Author.Needs.{needs}
 use Rattle.miller.proofs.seeds.complex_second.Statement.{statement}
 use Rattle.miller.proofs.seeds.complex_second.Tie as tie
-use Rattle.miller.proofs.seeds.complex_second.Reads as reads
-use Rattle.miller.proofs.seeds.complex_second.Lts as lts
-use Rattle.complex.proofs.number.Complex.conjugate.Reads as conjugate-reads
-use Rattle.complex.proofs.number.Complex.opposite.Reads as opposite-reads
-use Rattle.complex.proofs.number.Complex.over_real.Reads as over-real-reads
-use Rattle.complex.proofs.number.Complex.plus_real.Reads as plus-real-reads
-use Rattle.complex.proofs.number.Complex.product.Reads as product-reads
-use Rattle.complex.proofs.number.Complex.quotient.Reads as quotient-reads
-use Rattle.roots.proofs.hypot.hypot.Reads as hypot-reads
 
 returns : tie.Need-returns
 unfolding complexSecond onRealLine
 returns c = simp (c .if1 .taken)
 
-hypot-requires : tie.Need-hypot-requires
-hypot-requires c κs = search needs
+modulus-requires : tie.Need-modulus-requires
+modulus-requires c κs = search needs
 
 over-real-requires : tie.Need-over-real-requires
 over-real-requires c κs = search needs
@@ -64,7 +55,7 @@ returns-2 c = simp (
   c .before .before .before .before .before .before .before .over-real2 .ensures,
   c .before .before .before .before .before .before .before .before .conjugate .ensures,
   c .before .before .before .before .before .before .before .before .before .over-real .ensures,
-  c .before .before .before .before .before .before .before .before .before .before .hypot .ensures,
+  c .before .before .before .before .before .before .before .before .before .before .modulus .ensures,
   c .before .before .before .before .before .before .before .before .before .before .before .before .before .if1 .left,
 )
 
@@ -73,7 +64,7 @@ complex-second-spec =
     tie.close
     (tie.spec
     returns
-    hypot-requires
+    modulus-requires
     over-real-requires
     conjugate-requires
     over-real-requires-2

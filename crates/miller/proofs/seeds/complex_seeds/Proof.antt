@@ -3,20 +3,12 @@ use Rattle.miller.specs.Seeds.{complexFirstSeed, complexSeeds}
 use borrow.Author.Needs.{needs}
 use Rattle.miller.proofs.seeds.complex_seeds.Statement.{statement}
 use Rattle.miller.proofs.seeds.complex_seeds.Tie as tie
-use Rattle.miller.proofs.seeds.complex_seeds.Reads as reads
-use Rattle.miller.proofs.seeds.complex_seeds.Lts as lts
-use Rattle.complex.proofs.number.Complex.conjugate.Reads as conjugate-reads
-use Rattle.complex.proofs.number.Complex.over_real.Reads as over-real-reads
-use Rattle.complex.proofs.number.Complex.product.Reads as product-reads
-use Rattle.miller.proofs.backward.complex_steps.Reads as complex-steps-reads
-use Rattle.miller.proofs.seeds.complex_second.Reads as complex-second-reads
-use Rattle.roots.proofs.hypot.hypot.Reads as hypot-reads
 
 complex-steps-requires : tie.Need-complex-steps-requires
 complex-steps-requires c κs = search needs
 
-hypot-requires : tie.Need-hypot-requires
-hypot-requires c κs = search needs
+modulus-requires : tie.Need-modulus-requires
+modulus-requires c κs = search needs
 
 conjugate-requires : tie.Need-conjugate-requires
 conjugate-requires c κs = search needs
@@ -45,7 +37,7 @@ returns c = simp (
   c .before .before .before .over-real2 .ensures,
   c .before .before .before .before .over-real .ensures,
   c .before .before .before .before .before .conjugate .ensures,
-  c .before .before .before .before .before .before .hypot .ensures,
+  c .before .before .before .before .before .before .modulus .ensures,
   c .before .before .before .before .before .before .before .before .before .complex-steps .ensures,
 )
 
@@ -54,7 +46,7 @@ complex-seeds-spec =
     tie.close
     (tie.spec
     complex-steps-requires
-    hypot-requires
+    modulus-requires
     conjugate-requires
     over-real-requires
     over-real-requires-2

@@ -3,9 +3,6 @@ use Rattle.miller.specs.Seeds.{realSecond}
 use borrow.Author.Needs.{needs}
 use Rattle.miller.proofs.seeds.real_second.Statement.{statement}
 use Rattle.miller.proofs.seeds.real_second.Tie as tie
-use Rattle.miller.proofs.seeds.real_second.Reads as reads
-use Rattle.miller.proofs.seeds.real_second.Lts as lts
-use Rattle.miller.proofs.whole.magnitude.Reads as magnitude-reads
 
 returns : tie.Need-returns
 unfolding realSecond

@@ -4,11 +4,6 @@ use Rattle.miller.specs.Seeds.{realFirstSeed, realSeeds}
 use borrow.Author.Needs.{needs}
 use Rattle.miller.proofs.seeds.real_seeds.Statement.{statement}
 use Rattle.miller.proofs.seeds.real_seeds.Tie as tie
-use Rattle.miller.proofs.seeds.real_seeds.Reads as reads
-use Rattle.miller.proofs.seeds.real_seeds.Lts as lts
-use Rattle.miller.proofs.backward.real_steps.Reads as real-steps-reads
-use Rattle.miller.proofs.seeds.real_second.Reads as real-second-reads
-use Rattle.miller.proofs.whole.magnitude.Reads as magnitude-reads
 
 real-steps-requires : tie.Need-real-steps-requires
 real-steps-requires c κs = search needs

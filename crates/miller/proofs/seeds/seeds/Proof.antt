@@ -4,10 +4,6 @@ use Rattle.miller.specs.Seeds.{seedsAt, seedsOf}
 use borrow.Author.Needs.{needs}
 use Rattle.miller.proofs.seeds.seeds.Statement.{statement}
 use Rattle.miller.proofs.seeds.seeds.Tie as tie
-use Rattle.miller.proofs.seeds.seeds.Reads as reads
-use Rattle.miller.proofs.seeds.seeds.Lts as lts
-use Rattle.miller.proofs.search.search.Reads as search-reads
-use Rattle.miller.proofs.seeds.seeds_from.Reads as seeds-from-reads
 
 search-requires : tie.Need-search-requires
 search-requires c κs = search needs

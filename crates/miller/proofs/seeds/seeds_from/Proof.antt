@@ -4,11 +4,6 @@ use Rattle.miller.specs.Seeds.{seedsFrom}
 use borrow.Author.Needs.{needs}
 use Rattle.miller.proofs.seeds.seeds_from.Statement.{statement}
 use Rattle.miller.proofs.seeds.seeds_from.Tie as tie
-use Rattle.miller.proofs.seeds.seeds_from.Reads as reads
-use Rattle.miller.proofs.seeds.seeds_from.Lts as lts
-use Rattle.miller.proofs.point.is_real.Reads as is-real-reads
-use Rattle.miller.proofs.seeds.complex_seeds.Reads as complex-seeds-reads
-use Rattle.miller.proofs.seeds.real_seeds.Reads as real-seeds-reads
 
 is-real-requires : tie.Need-is-real-requires
 is-real-requires c κs = search needs

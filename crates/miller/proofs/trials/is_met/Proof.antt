@@ -3,9 +3,6 @@ use Rattle.miller.specs.Trials.{isMet}
 use borrow.Author.Needs.{needs}
 use Rattle.miller.proofs.trials.is_met.Statement.{statement}
 use Rattle.miller.proofs.trials.is_met.Tie as tie
-use Rattle.miller.proofs.trials.is_met.Reads as reads
-use Rattle.miller.proofs.trials.is_met.Lts as lts
-use Rattle.miller.proofs.whole.magnitude.Reads as magnitude-reads
 
 magnitude-requires : tie.Need-magnitude-requires
 magnitude-requires c κs = search needs

@@ -4,8 +4,6 @@ use Rattle.miller.specs.Trials.{nextTrial}
 use borrow.Author.Needs.{needs}
 use Rattle.miller.proofs.trials.next_trial.Statement.{statement}
 use Rattle.miller.proofs.trials.next_trial.Tie as tie
-use Rattle.miller.proofs.trials.next_trial.Reads as reads
-use Rattle.miller.proofs.trials.next_trial.Lts as lts
 
 int-to-float-n : tie.Need-int-to-float-n
 int-to-float-n c = search needs

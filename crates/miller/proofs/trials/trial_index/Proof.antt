@@ -10,10 +10,6 @@ use Rattle.miller.specs.Trials.{nextTrial, trialAfter, isMet, metAfter, 
 use Rattle.miller.proofs.TrialFacts.{trial-next, index-met, index-unmet}
 use Rattle.miller.proofs.trials.trial_index.Statement.{statement}
 use Rattle.miller.proofs.trials.trial_index.Tie as tie
-use Rattle.miller.proofs.trials.trial_index.Reads as reads
-use Rattle.miller.proofs.trials.trial_index.Lts as lts
-use Rattle.miller.proofs.trials.is_met.Reads as is-met-reads
-use Rattle.miller.proofs.trials.next_trial.Reads as next-trial-reads
 
 abbrev Inv-loop : tie.InvT-loop
 Inv-loop modulus square test trial₀ i₀ trial i = (i ≤ 30) × (trial ≡ trialAfter modulus square i) × (trialsTaken modulus square test ≡ firstFrom (metAfter modulus square test) (31 - (i + 1)) (i + 1))

@@ -7,10 +7,6 @@ use Rattle.roots.proofs.HypotCases.{magnitude-is}
 use borrow.Author.Needs.{needs}
 use Rattle.miller.proofs.whole.magnitude.Statement.{statement}
 use Rattle.miller.proofs.whole.magnitude.Tie as tie
-use Rattle.miller.proofs.whole.magnitude.Reads as reads
-use Rattle.miller.proofs.whole.magnitude.Lts as lts
-use Rattle.machine.proofs.bits.of_pattern.Reads as of-pattern-reads
-use Rattle.machine.proofs.bits.pattern.Reads as pattern-reads
 
 pattern-requires : tie.Need-pattern-requires
 pattern-requires c κs = search needs

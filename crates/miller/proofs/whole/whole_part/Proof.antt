@@ -7,9 +7,6 @@ use Rattle.miller.proofs.WholeFacts.{nothing-whole, few-digits, shifted
 use borrow.Author.Needs.{needs}
 use Rattle.miller.proofs.whole.whole_part.Statement.{statement}
 use Rattle.miller.proofs.whole.whole_part.Tie as tie
-use Rattle.miller.proofs.whole.whole_part.Reads as reads
-use Rattle.miller.proofs.whole.whole_part.Lts as lts
-use Rattle.machine.proofs.bits.pattern.Reads as pattern-reads
 
 pattern-requires : tie.Need-pattern-requires
 pattern-requires c κs = search needs

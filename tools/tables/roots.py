@@ -99,7 +99,7 @@ def proof():
         f'-- `roots::tables::quadratic_of` meets its contract, at each of its {PIECES} pieces. Written by tools/tables/roots.py. Assumes nothing.',
         'use mathlib.Core.Path.{refl}',
         f'use Rattle.roots.specs.Tables.{{{", ".join(names)}}}',
-        'use Rattle.roots.proofs.Arms.{last}',
+        'use Rattle.laws.proofs.Arms.{last}',
         'use Rattle.roots.proofs.tables.quadratic_of.Statement.{statement}',
         'use Rattle.roots.proofs.tables.quadratic_of.Tie as tie',
     ]

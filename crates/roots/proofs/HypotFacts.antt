@@ -1,4 +1,4 @@
--- Facts of `hypotOf`: wherever it is normal, its square is within one part in 2^40 of the sum of the squares (`hypot-close`); with a zero part it is exact (`hypot-zero-left`, `hypot-zero-right`); signs do not matter; special values. Assumes nothing.
+-- Wherever hypot of finite numbers is normal, its square is within one part in 2^40 of the sum of the squares (`hypot-close`): the sum is close, its root is close, and the power of two is taken back. Assumes nothing.
 use mathlib.Core.Path.{_≡_, refl, sym, ap, _∙_, subst}
 use mathlib.Core.Bool.{Bool, true, false}
 use Prim.Native.Nat.{ℕ, zero, suc, _+_, _-_, _*_, _^_, _≤_, _<_}
@@ -15,6 +15,7 @@ use Rattle.laws.proofs.Value.{sign, own-fraction}
 use Rattle.laws.proofs.Power.{mul-value}
 use Rattle.laws.proofs.Relative.{Rat, positive-nonnegative, nonnegative-value, round-nonnegative, rat-refl, rat-of-eq, rat-mul, rat-trans, rat-weaken, rat-left, rat-right}
 use Rattle.roots.specs.Hypot.{rootAt, sumOfSquares, leastSum, greatestSum, larger, smaller, scaledHypot, fullHypot, hypotOf}
+use Rattle.roots.specs.Close.{squaresOver, squaresUnder, NormalValue, SquareClose}
 use Rattle.roots.proofs.Mixed.{round-mixed, mixed-normal}
 use Rattle.roots.proofs.HypotCases.{sum-parts, within-range, full-within, full-above, full-below}
 use Rattle.roots.proofs.HypotSum.{Summed, summed, square-round}
@@ -22,20 +23,9 @@ use Rattle.roots.proofs.HypotRange.{within-floor, above-floor, below-ce
 use Rattle.roots.proofs.HypotParts.{least-value, parts-finite, up-part, down-part, larger-value, smaller-value}
 use Rattle.roots.proofs.HypotRoot.{from-squares, root-close}
 
--- ---- the sum of the squares of x and y as a fraction
-abbrev pub squaresOver : Float → Float → ℕ
-squaresOver x y = num x * num x * (den y * den y) + num y * num y * (den x * den x)
-
-abbrev pub squaresUnder : Float → Float → ℕ
-squaresUnder x y = den x * den x * (den y * den y)
-
--- r * r is within one part in 2 ^ 40 of x * x + y * y
-abbrev pub Near40 : Float → Float → Float → Type 0
+-- r * r is within one part in 2 ^ 40 of x * x + y * y, as a ratio
+abbrev Near40 : Float → Float → Float → Type 0
 Near40 r x y = Rat (2 ^ 40 - 1) (2 ^ 40 + 1) (2 ^ 40) (num r * num r) (den r * den r) (squaresOver x y) (squaresUnder x y)
-
--- finite, above zero and not subnormal
-abbrev pub NormalValue : Float → Type 0
-NormalValue r = T (finite r) × (den r ≤ num r * 2 ^ 1022)
 
 -- ---- the root of a sum
 rooted : (S : Float) (P Q : ℕ) → T (fits binary64 S) → Summed S P Q → T (positive (rootAt (toBits binary64 S)))
@@ -49,8 +39,8 @@ powered : (q β : Float) (N D : ℕ) → 0 < D → T (positive q) → HasValue �
 powered q β N D P p v h =
     let r = mul binary64 q β in
     let e = mul-value binary64 q β false false (num q) (den q) N D (den-pos q) P (nonnegative-value q (positive-nonnegative q p)) v in
-    mixed-normal (pow-pos 1075) (round-mixed (num q * N) (den q * D) r (mul-pos (den-pos q) P) e (h .0))
-    (le-trans (mul-le-mul-left (2 ^ 53) (h .1)) (le-of-eq (mul-comm (2 ^ 53) (num r * 2 ^ 1022) ∙ mul-assoc (num r) (2 ^ 1022) (2 ^ 53))))
+    mixed-normal (pow-pos 1075) (round-mixed (num q * N) (den q * D) r (mul-pos (den-pos q) P) e (h .isFinite))
+    (le-trans (mul-le-mul-left (2 ^ 53) (h .isNormal)) (le-of-eq (mul-comm (2 ^ 53) (num r * 2 ^ 1022) ∙ mul-assoc (num r) (2 ^ 1022) (2 ^ 53))))
 
 -- the root of P / Q, times N / D, is the root of X / Y
 back : (q β : Float) (N D P Q X Y : ℕ) → 0 < D → 0 < Q → T (positive q) → HasValue β false N D → NormalValue (mul binary64 q β)
@@ -191,12 +181,16 @@ zero-first e n d p = rat-of-eq (n * n) (d * d) (0 * up e * (0 * up e) * (d * d) 
 zero-second : (e : ℤ) (n : ℕ) (d : ℕ) → 0 < d → Rat 1 1 1 (n * n) (d * d) (n * n * (down e * down e) + 0 * up e * (0 * up e) * (d * d)) (d * d * (down e * down e))
 zero-second e n d p = rat-of-eq (n * n) (d * d) (n * n * (down e * down e) + 0 * up e * (0 * up e) * (d * d)) (d * d * (down e * down e)) (simp (zero-mul, add-zero, mul-assoc, mul-comm, mul-left-comm))
 
-pub hypot-close : (x y : Float) → T (fits binary64 x) → T (fits binary64 y) → T (finite x) → T (finite y) → NormalValue (hypotOf x y) → Near40 (hypotOf x y) x y
+close : (x y : Float) → T (fits binary64 x) → T (fits binary64 y) → T (finite x) → T (finite y) → NormalValue (hypotOf x y) → Near40 (hypotOf x y) x y
 unfolding hypotOf
-hypot-close nan y Fx Fy fx fy n = absurd fx
-hypot-close (inf s) y Fx Fy fx fy n = absurd fx
-hypot-close (fin s m e) nan Fx Fy fx fy n = absurd fy
-hypot-close (fin s m e) (inf t) Fx Fy fx fy n = absurd fy
-hypot-close (fin s zero e) (fin t k d) Fx Fy fx fy n = rat-weaken (lit< tt) (lit≤ tt) (lit≤ tt) (zero-first e (k * up d) (down d) (down-pos d))
-hypot-close (fin s (suc m) e) (fin t zero d) Fx Fy fx fy n = rat-weaken (lit< tt) (lit≤ tt) (lit≤ tt) (zero-second d (suc m * up e) (down e) (down-pos e))
-hypot-close (fin s (suc m) e) (fin t (suc k) d) Fx Fy fx fy n = full-range (fin s (suc m) e) (fin t (suc k) d) Fx Fy fx fy (mul-pos (zero-lt-suc m) (up-pos e)) n
+close nan y Fx Fy fx fy n = absurd fx
+close (inf s) y Fx Fy fx fy n = absurd fx
+close (fin s m e) nan Fx Fy fx fy n = absurd fy
+close (fin s m e) (inf t) Fx Fy fx fy n = absurd fy
+close (fin s zero e) (fin t k d) Fx Fy fx fy n = rat-weaken (lit< tt) (lit≤ tt) (lit≤ tt) (zero-first e (k * up d) (down d) (down-pos d))
+close (fin s (suc m) e) (fin t zero d) Fx Fy fx fy n = rat-weaken (lit< tt) (lit≤ tt) (lit≤ tt) (zero-second d (suc m * up e) (down e) (down-pos e))
+close (fin s (suc m) e) (fin t (suc k) d) Fx Fy fx fy n = full-range (fin s (suc m) e) (fin t (suc k) d) Fx Fy fx fy (mul-pos (zero-lt-suc m) (up-pos e)) n
+
+-- ---- wherever hypot of finite numbers is normal
+pub hypot-close : (x y : Float) → T (fits binary64 x) → T (fits binary64 y) → T (finite x) → T (finite y) → NormalValue (hypotOf x y) → SquareClose (hypotOf x y) x y
+hypot-close x y Fx Fy fx fy n = let r = close x y Fx Fy fx fy n in record { lower = r .lower; upper = r .upper }

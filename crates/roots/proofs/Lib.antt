@@ -1,5 +1,4 @@
 -- The theorems, by topic: whole roots, sqrt, the seed and its Heron step, hypot.
-pub mod Arms
 pub mod WholeRoot
 pub mod Significand
 pub mod Shape

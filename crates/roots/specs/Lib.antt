@@ -2,3 +2,4 @@ pub mod Tables
 pub mod Seed
 pub mod Sqrt
 pub mod Hypot
+pub mod Close

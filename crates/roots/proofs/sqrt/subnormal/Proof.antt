@@ -24,7 +24,7 @@ cast-s : tie.Need-cast-s
 cast-s c = omega (arith, leading-le 64 (c .args .u))
 
 sub-s : tie.Need-sub-s
-sub-s c = range c .0
+sub-s c = omega (arith, range c)
 
 shl-v : tie.Need-shl-v
 shl-v c = omega (arith, range c)

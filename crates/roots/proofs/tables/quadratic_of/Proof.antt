@@ -1,7 +1,7 @@
 -- `roots::tables::quadratic_of` meets its contract, at each of its 128 pieces. Written by tools/tables/roots.py. Assumes nothing.
 use mathlib.Core.Path.{refl}
 use Rattle.roots.specs.Tables.{constants, slopes, bends}
-use Rattle.roots.proofs.Arms.{last}
+use Rattle.laws.proofs.Arms.{last}
 use Rattle.roots.proofs.tables.quadratic_of.Statement.{statement}
 use Rattle.roots.proofs.tables.quadratic_of.Tie as tie
 

@@ -7,3 +7,5 @@ pub mod FillFacts
 pub mod StepFacts
 pub mod WalkFacts
 pub mod VisitSums
+pub mod Constants
+pub mod VisitFacts

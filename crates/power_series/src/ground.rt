@@ -3,7 +3,6 @@
 // and the recurrence subtracts: the same series is then that of J.
 ghost use mathlib.Core.Path.{_≡_};
 ghost use Rattle.power_series.specs.Ground.{turnedOf, squareOf, groundOf};
-use complex::functions::ln_with;
 use complex::number::Complex;
 use complex::power::square;
 
@@ -52,6 +51,6 @@ pub fn prepare(scaled: bool, turned: bool, order: f64, z: Complex, modulus: f64)
         half_z_sq: turn(turned, square_of(modulus, half)),
         abs_half_z_sq: half_modulus * half_modulus,
         two_over_z: z.two_over_with(modulus),
-        ln_half_z: ln_with(half.modulus(), half.argument()),
+        ln_half_z: half.ln(),
     }
 }

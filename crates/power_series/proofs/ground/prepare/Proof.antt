@@ -1,5 +1,4 @@
 -- `power_series::ground::prepare` meets its contract: each field is its definition. Assumes nothing.
-use Rattle.complex.specs.Functions.{complexLnOf}
 use Rattle.power_series.specs.Orders.{halfSquare}
 use Rattle.power_series.specs.Ground.{groundOf}
 use borrow.Author.Needs.{needs}
@@ -18,20 +17,14 @@ turn-requires c κs = search needs
 two-over-with-requires : tie.Need-two-over-with-requires
 two-over-with-requires c κs = search needs
 
-modulus-requires : tie.Need-modulus-requires
-modulus-requires c κs = search needs
-
-argument-requires : tie.Need-argument-requires
-argument-requires c κs = search needs
-
-ln-with-requires : tie.Need-ln-with-requires
-ln-with-requires c κs = search needs
+ln-requires : tie.Need-ln-requires
+ln-requires c κs = search needs
 
 returns : tie.Need-returns
-unfolding complexLnOf halfSquare groundOf
+unfolding halfSquare groundOf
 returns c =
-    let d = c .before .before .before in
-    simp (c .ln-with .ensures, c .before .argument .ensures, c .before .before .modulus .ensures, d .two-over-with .ensures, d .before .turn .ensures, d .before .before .square-of .ensures, d .before .before .before .times-real .ensures)
+    let d = c .before .before in
+    simp (c .ln .ensures, c .before .two-over-with .ensures, d .turn .ensures, d .before .square-of .ensures, d .before .before .times-real .ensures)
 
 pub prepare-spec : {M : Type 1} → statement M
 prepare-spec =
@@ -41,7 +34,5 @@ prepare-spec =
     square-of-requires
     turn-requires
     two-over-with-requires
-    modulus-requires
-    argument-requires
-    ln-with-requires
+    ln-requires
     returns)

@@ -1,3 +1,7 @@
 -- The theorems, by topic.
+pub mod Counted
 pub mod DifferenceBound
+pub mod GammasAtZero
+pub mod Magnitudes
 pub mod TemmeBound
+pub mod Zeros

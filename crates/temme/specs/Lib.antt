@@ -1,3 +1,5 @@
 -- The definitions that other crates cite, by topic.
 pub mod Difference
-pub mod Magnitude
+pub mod Gammas
+pub mod Sum
+pub mod Seeds

@@ -1,0 +1,115 @@
+-- What the visit of n orders leaves: its cells, 2 to each order; where it stopped, an entry of 0 and below it the fixed not-a-number; and each order from there up counted once, as a zero, a seed or a step of the recurrence.
+-- Assumes nothing.
+use mathlib.Core.Path.{_≡_, refl, sym, ap, _∙_, subst}
+use mathlib.Core.Logic.{_⊎_, inl, inr}
+use mathlib.Core.Bool.{Bool, true, false}
+use mathlib.Core.List.{List, [], _∷_, _++_}
+use Prim.Native.Nat.{ℕ, zero, suc, _+_, _-_, _*_, _≤_, _<_}
+use native.Mathlib.Omega.{arith}
+use lib.ListN.{length, replicate, length-append, length-replicate}
+use lib.Ieee.{Float, binary64, ofBits}
+use Rattle.laws.specs.Run.{run}
+use Rattle.laws.proofs.Run.{Ends, run-ends}
+use Rattle.machine.specs.Constants.{notANumber}
+use Rattle.complex.specs.declared.number.Complex.{Complex}
+use Rattle.power_series.specs.declared.ground.Ground.{Ground}
+use Rattle.power_series.specs.declared.step.Descent.{Descent}
+use Rattle.power_series.specs.Step.{startDescent, stepOf}
+use Rattle.power_series.specs.Visit.{Walk, startWalk, isStopped, withEntry, nextWalk, walkOf, visitedOf, visitOf}
+use Rattle.power_series.proofs.StepFacts.{Did, zeroed, kept, recurred, did}
+use Rattle.power_series.proofs.WalkFacts.{stopping, stepping}
+
+abbrev nought : Float
+nought = ofBits binary64 0
+
+-- the orders that are done
+abbrev pub ordersOf : Descent → ℕ
+ordersOf s = s .counts .zeros + s .registers .seeded + s .counts .rungs
+
+-- of n orders i are done
+pub record Along (n i : ℕ) (w : Walk) : Type 0 where
+  pub left : w .reached .left ≡ n - i
+  pub counted : ordersOf (w .reached .state) ≡ i
+  pub written : length (w .cells) ≡ i * 2
+  pub begun : w .reached .state .stopped ≡ true → 0 < i
+  pub zero-entry : w .reached .state .stopped ≡ true → (rest : List Float) × (w .cells ≡ nought ∷ nought ∷ rest)
+
+false-true : false ≡ true → ⊥
+false-true e = let z : _≡_ {A = ℕ} 0 1 = cc in omega arith
+
+module _ (g : Ground) (n : ℕ) where
+  starts : Along n 0 (startWalk n)
+  unfolding startWalk startDescent
+  starts = record { left = omega arith; counted = refl; written = refl; begun = λ e. absurd (false-true e); zero-entry = λ e. absurd (false-true e) }
+
+  orders-more : (k : ℕ) (s : Descent) → ordersOf (stepOf g k s) ≡ ordersOf s + 1
+  orders-more k s = elim (did g k s) [ zeroed d ↦ omega arith | kept d ↦ omega arith | recurred d ↦ omega arith ]
+
+  entry : (k : ℕ) (s : Descent) (cells : List Float) → stepOf g k s .stopped ≡ true → (rest : List Float) × (stepOf g k s .above .re ∷ stepOf g k s .above .im ∷ cells ≡ nought ∷ nought ∷ rest)
+  entry k s cells e =
+      elim (did g k s) [
+        | zeroed d ↦ (cells, ap (λ (z : Complex). z .re ∷ z .im ∷ cells) (d .entry))
+        | kept d ↦ absurd (false-true (sym (d .stopped) ∙ e))
+        | recurred d ↦ absurd (false-true (sym (d .stopped) ∙ e))
+      ]
+
+  goes : (i : ℕ) (w : Walk) → isStopped w ≡ false → Along n i w → Along n (suc i) (nextWalk g w)
+  unfolding nextWalk withEntry
+  goes i w o a =
+      let k = w .reached .left - 1 in
+      let s = w .reached .state in
+      let more = orders-more k s in
+      let left : w .reached .left ≡ n - i = a .left in
+      let counted : ordersOf s ≡ i = a .counted in
+      let written : length (w .cells) ≡ i * 2 = a .written in
+      record { left = omega arith; counted = more ∙ omega arith; written = omega arith; begun = λ e. omega arith; zero-entry = λ e. entry k s (w .cells) e }
+
+  -- where it ends
+  abbrev ended : Ends stopping (stepping g) (Along n) n 0 (startWalk n)
+  ended = run-ends stopping (stepping g) (Along n) goes n 0 (startWalk n) starts
+
+  along : Along n (ended .k) (walkOf g n)
+  unfolding walkOf
+  along = ended .holds
+
+  within : ended .k ≤ n
+  within = let h : ended .k ≤ 0 + n = ended .to in omega arith
+
+  pub orders-counted : ordersOf (walkOf g n .reached .state) + walkOf g n .reached .left ≡ n
+  orders-counted =
+      let left = along .left in
+      let counted = along .counted in
+      let few = within in
+      omega arith
+
+  pub cells-length : length (visitOf g n .cells) ≡ n * 2
+  unfolding visitOf visitedOf
+  cells-length =
+      let left = along .left in
+      let written = along .written in
+      let few = within in
+      simp (length-append, length-replicate) (omega arith)
+
+  -- a visit that stopped: the entry at its place is 0, and below it is the fixed not-a-number
+  pub record Stopped : Type 0 where
+    pub low : visitOf g n .visit .place < n
+    pub rest : List Float
+    pub cells : visitOf g n .cells ≡ replicate (visitOf g n .visit .place * 2) notANumber ++ (nought ∷ nought ∷ rest)
+
+  pub stopped-cells : visitOf g n .visit .stopped ≡ true → Stopped
+  unfolding visitOf visitedOf
+  stopped-cells e =
+      let left = along .left in
+      let begun : 0 < ended .k = along .begun e in
+      let few = within in
+      let z = along .zero-entry e in
+      record { low = omega arith; rest = z .0; cells = ap (λ (l : List Float). replicate (walkOf g n .reached .left * 2) notANumber ++ l) (z .1) }
+
+  -- one that did not stop went through all orders
+  pub whole : visitOf g n .visit .stopped ≡ false → visitOf g n .visit .place ≡ 0
+  unfolding visitOf visitedOf walkOf isStopped
+  whole e = at (ended .ended)
+    where
+      at : (stopping (ended .k) (run stopping (stepping g) n 0 (startWalk n)) ≡ true) ⊎ (ended .k ≡ 0 + n) → walkOf g n .reached .left ≡ 0
+      at (inl h) = absurd (false-true (sym e ∙ h))
+      at (inr h) = let left = along .left in omega arith

@@ -1,0 +1,153 @@
+-- Temme's difference series ends by its own test, and never for want of coefficients: for |ν| ≤ 0.1 the seventh term of the eight passes it, if none before has.
+-- The largest ν² is computed, and products keep the order. Assumes nothing.
+use mathlib.Core.Path.{_≡_, refl, sym, ap, _∙_, subst}
+use mathlib.Core.Bool.{Bool, true, false, not, cond}
+use mathlib.Core.Logic.{_⊎_, inl, inr}
+use Prim.Native.Nat.{ℕ, zero, suc, _+_, _^_, _≤_, _<_}
+use native.Mathlib.Numerals.{add-one}
+use native.Mathlib.Omega.{arith}
+use lib.Dec.{T, lit<}
+use lib.ListN.{getD}
+use lib.Ieee.{Float, nan, inf, fin, binary64, ofBits, neg, mul, lt, le}
+use lib.Ieee.Positive.{num, den}
+use Rattle.laws.specs.Iterate.{iterate}
+use Rattle.laws.proofs.Relative.{nonnegative}
+use Rattle.laws.proofs.Bound.{Up, Lo, up-of, up-test, lo-test, up-of-le, up-weaken, up-lo-lt, every, every-at}
+use Rattle.laws.proofs.First.{First, first, passed, run-first}
+use Rattle.laws.proofs.Sign.{mul-neg-neg}
+use Rattle.machine.specs.Constants.{tolerance}
+use Rattle.complex.specs.Lost.{magnitudeOf}
+use Rattle.complex.specs.Functions.{realPowerOf}
+use Rattle.temme.specs.declared.difference.Partial.{Partial}
+use Rattle.temme.specs.Difference.{differenceCoefficients, fractionSquare, startSeries, withTerm, seriesOf, SeriesEnds}
+use Rattle.temme.specs.Sum.{one}
+use Rattle.temme.proofs.TemmeBound.{mul-up-round}
+use Rattle.temme.proofs.Magnitudes.{magnitude-bare, magnitude-up}
+
+-- 0.1, and its square rounded
+abbrev tenth : Float
+tenth = ofBits binary64 0x3FB999999999999A
+
+abbrev hundredth : Float
+hundredth = ofBits binary64 0x3F847AE147AE147C
+
+-- the term i, and the test behind it
+unfoldable term : Float → ℕ → Float
+term w i = mul binary64 (getD differenceCoefficients i nan) (realPowerOf w i)
+
+unfoldable ends : Float → ℕ → Bool
+ends w i = lt (magnitudeOf (term w i)) tolerance
+
+powersTest : ℕ → Bool
+powersTest i = nonnegative (realPowerOf hundredth i)
+
+powers : T (every powersTest 7)
+unfolding powersTest realPowerOf iterate ofBits mul
+powers = tt
+
+hundredth-sign : T (nonnegative hundredth)
+unfolding ofBits
+hundredth-sign = tt
+
+term-sign : T (nonnegative (term hundredth 6))
+unfolding term differenceCoefficients realPowerOf iterate ofBits mul
+term-sign = tt
+
+coefficient-sign : T (nonnegative (getD differenceCoefficients 6 nan))
+unfolding differenceCoefficients ofBits
+coefficient-sign = tt
+
+-- the seventh term at the largest square is below 2^-59
+seventh : Up (term hundredth 6) 1 (2 ^ 59)
+unfolding term differenceCoefficients realPowerOf iterate ofBits mul
+seventh = up-test (term hundredth 6) 1 (2 ^ 59) tt
+
+tolerance-lo : Lo tolerance 1 (2 ^ 52)
+unfolding tolerance ofBits
+tolerance-lo = lo-test tolerance 1 (2 ^ 52) tt
+
+module _ (w : Float) (bound : Up w (num hundredth) (den hundredth)) where
+  power-up : (i : ℕ) → i < 7 → Up (realPowerOf w i) (num (realPowerOf hundredth i)) (den (realPowerOf hundredth i))
+  unfolding realPowerOf iterate powersTest ofBits
+  power-up zero h = up-of one tt
+  power-up (suc i) h =
+      mul-up-round binary64 (realPowerOf w i) (realPowerOf hundredth i) w hundredth (every-at powersTest 7 powers i (omega arith)) hundredth-sign (every-at powersTest 7 powers (suc i) h)
+      (power-up i (omega arith)) bound
+
+  term-up : Up (term w 6) 1 (2 ^ 59)
+  unfolding term powersTest
+  term-up =
+      up-weaken 1 (2 ^ 59) (lit< tt) (seventh .bound)
+      (mul-up-round binary64 (getD differenceCoefficients 6 nan) (getD differenceCoefficients 6 nan) (realPowerOf w 6) (realPowerOf hundredth 6) coefficient-sign (every-at powersTest 7 powers 6 (lit< tt)) term-sign
+      (up-of (getD differenceCoefficients 6 nan) coefficient-sign) (power-up 6 (lit< tt)))
+
+  meets : ends w 6 ≡ true
+  unfolding ends
+  meets =
+      passed (lt (magnitudeOf (term w 6)) tolerance)
+      (subst (λ (z : Float). T (lt z tolerance)) (sym (magnitude-bare (term w 6) (term-up .sign))) (up-lo-lt (term w 6) tolerance term-up tolerance-lo (lit< tt)))
+
+-- ---- the sum after i terms
+module _ (w : Float) where
+  after : ℕ → Partial
+  after i = iterate i (withTerm w) startSeries
+
+  after-next : (i : ℕ) → after (suc i) ≡ withTerm w (after i)
+  unfolding after iterate
+  after-next i = refl
+
+  after-count : (i : ℕ) → after i .count ≡ i
+  unfolding after iterate withTerm startSeries
+  after-count zero = refl
+  after-count (suc i) = ap (λ (n : ℕ). n + 1) (after-count i) ∙ add-one i
+
+  after-power : (i : ℕ) → after i .power ≡ realPowerOf w i
+  unfolding after iterate withTerm startSeries realPowerOf
+  after-power zero = refl
+  after-power (suc i) = ap (λ (p : Float). mul binary64 p w) (after-power i)
+
+  after-done : (i : ℕ) → after (suc i) .done ≡ ends w i
+  unfolding after iterate withTerm ends term
+  after-done i = rw (after-count i, after-power i)
+
+  begun : after 0 .done ≡ false
+  unfolding after iterate startSeries
+  begun = refl
+
+  pub series-ends : Up w (num hundredth) (den hundredth) → SeriesEnds (seriesOf w)
+  unfolding seriesOf after iterate
+  series-ends bound =
+      let e = first true (ends w) 6 (meets w bound) in
+      let n = suc (e .0) in
+      let f : First true (λ i. after i .done) n = record { here = after-done (e .0) ∙ e .2 .here; before = before (e .0) (e .2 .before) } in
+      let r : seriesOf w ≡ after n = run-first (λ i s. s .done) (λ i s. withTerm w s) after after-next n 8 (omega arith) f in
+      let t : seriesOf w .count ≡ n = ap (λ (s : Partial). s .count) r ∙ after-count n in
+      record { few = omega arith; test = ap (λ (s : Partial). s .done) r ∙ f .here }
+    where
+      before : (k : ℕ) → ((i : ℕ) → i < k → ends w i ≡ false) → (i : ℕ) → i < suc k → after i .done ≡ false
+      before k b zero h = begun
+      before k b (suc i) h = after-done i ∙ b i (omega arith)
+
+-- ---- a fraction up to 0.1 of either sign
+square-up : (v : Float) → T (le (magnitudeOf v) tenth) → Up (mul binary64 v v) (num hundredth) (den hundredth)
+unfolding ofBits mul
+square-up v h = either (magnitude-up v tenth tt h)
+  where
+    bare : (u : Float) → Up u (num tenth) (den tenth) → Up (mul binary64 u u) (num hundredth) (den hundredth)
+    bare u b = mul-up-round binary64 u tenth u tenth tt tt tt b b
+
+    either : (u : Float) × ((v ≡ u) ⊎ (v ≡ neg u)) × Up u (num tenth) (den tenth) → Up (mul binary64 v v) (num hundredth) (den hundredth)
+    either (u, inl e, b) = subst (λ (x : Float). Up (mul binary64 x x) (num hundredth) (den hundredth)) (sym e) (bare u b)
+    either (u, inr e, b) =
+        subst (λ (x : Float). Up (mul binary64 x x) (num hundredth) (den hundredth)) (sym e) (subst (λ (x : Float). Up x (num hundredth) (den hundredth)) (sym (mul-neg-neg binary64 u u)) (bare u b))
+
+fraction-up : (v : Float) → T (le (magnitudeOf v) tenth) → Up (fractionSquare v) (num hundredth) (den hundredth)
+unfolding fractionSquare ofBits
+fraction-up v h = go (lt tolerance (magnitudeOf v))
+  where
+    go : (b : Bool) → Up (cond b (mul binary64 v v) (ofBits binary64 0)) (num hundredth) (den hundredth)
+    go true = square-up v h
+    go false = up-test (ofBits binary64 0) (num hundredth) (den hundredth) tt
+
+pub difference-ends : (v : Float) → T (le (magnitudeOf v) (ofBits binary64 0x3FB999999999999A)) → SeriesEnds (seriesOf (fractionSquare v))
+difference-ends v h = series-ends (fractionSquare v) (fraction-up v h)

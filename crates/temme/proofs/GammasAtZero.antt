@@ -1,0 +1,71 @@
+-- The reciprocal gammas at the fraction 0: each is 1, and so is their mean. Assumes nothing.
+use mathlib.Core.Path.{_≡_, refl, sym, ap, _∙_, subst}
+use mathlib.Core.Bool.{Bool, true, false}
+use lib.Dec.{T}
+use lib.Ieee.{Float, binary64, ofBits, toUnsigned, fits, neg, add, mul, div, lt, le, eq, round}
+use Rattle.rounding.specs.Round.{nearestWhole, roundOf}
+use Rattle.gamma_ln.specs.Tables.{wholeValues}
+use Rattle.gamma_ln.specs.GammaLn.{isTabulated, tabulatedOf, gammaLnOf}
+use Rattle.exponential.specs.Exp.{expOf}
+use Rattle.complex.specs.Lost.{magnitudeOf}
+use Rattle.temme.specs.declared.gammas.Gammas.{Gammas}
+use Rattle.temme.specs.Difference.{differenceOf}
+use Rattle.temme.specs.Gammas.{oneOverSinc, differenceQuotient, gammasOf}
+use Rattle.temme.specs.Sum.{one}
+use Rattle.temme.proofs.Zeros.{zeroOf, zero-is, exp-minus-zero}
+
+one-plus : (s : Bool) → add binary64 one (zeroOf s) ≡ one
+unfolding ofBits add
+one-plus true = refl
+one-plus false = refl
+
+tabulated : isTabulated one ≡ true
+unfolding isTabulated roundOf nearestWhole ofBits le lt eq round
+tabulated = refl
+
+value-at-one : tabulatedOf one ≡ zeroOf false
+unfolding tabulatedOf toUnsigned wholeValues ofBits
+value-at-one = refl
+
+above-zero : le one (ofBits binary64 0) ≡ false
+unfolding ofBits le lt eq
+above-zero = refl
+
+log-gamma-at-one : gammaLnOf one .value ≡ zeroOf false
+unfolding gammaLnOf
+log-gamma-at-one = rw (above-zero, tabulated, value-at-one)
+
+minus-zero : neg (zeroOf false) ≡ zeroOf true
+unfolding neg
+minus-zero = refl
+
+sinc-at-zero : (s : Bool) → oneOverSinc (zeroOf s) ≡ one
+unfolding oneOverSinc ofBits eq
+sinc-at-zero true = refl
+sinc-at-zero false = refl
+
+plus-at-zero : (s : Bool) → expOf (neg (gammaLnOf (add binary64 one (zeroOf s)) .value)) ≡ one
+plus-at-zero s = rw (one-plus s, log-gamma-at-one, minus-zero) exp-minus-zero
+
+minus-at-zero : div binary64 one (mul binary64 one one) ≡ one
+unfolding ofBits div mul
+minus-at-zero = refl
+
+mean-at-zero : mul binary64 (add binary64 one one) (ofBits binary64 0x3FE0000000000000) ≡ one
+unfolding ofBits add mul
+mean-at-zero = refl
+
+quotient-at-zero : (s : Bool) (w : Float) → differenceQuotient (zeroOf s) w one one ≡ differenceOf w
+unfolding differenceQuotient magnitudeOf ofBits neg le lt eq
+quotient-at-zero true w = refl
+quotient-at-zero false w = refl
+
+abbrev pub atZero : Float → Gammas
+atZero w = record { «one_over_sinc» = one; plus = one; minus = one; difference = differenceOf w; mean = one }
+
+signed : (s : Bool) (w : Float) → gammasOf (zeroOf s) w ≡ atZero w
+unfolding gammasOf
+signed s w = rw (plus-at-zero s, sinc-at-zero s, minus-at-zero, mean-at-zero, quotient-at-zero s w)
+
+pub gammas-at-zero : (v w : Float) → T (fits binary64 v) → eq v (ofBits binary64 0) ≡ true → gammasOf v w ≡ atZero w
+gammas-at-zero v w F h = let a = zero-is v F h in ap (λ (x : Float). gammasOf x w) (a .1) ∙ signed (a .0) w

@@ -1,0 +1,24 @@
+-- `temme::difference::fraction_square` meets its contract. Assumes nothing.
+use mathlib.Core.Path.{sym, _∙_}
+use Rattle.machine.specs.Constants.{tolerance}
+use Rattle.temme.specs.Difference.{fractionSquare}
+use borrow.Author.Needs.{needs}
+use Rattle.temme.proofs.difference.fraction_square.Statement.{statement}
+use Rattle.temme.proofs.difference.fraction_square.Tie as tie
+use Rattle.temme.proofs.difference.fraction_square.Reads as reads
+use Rattle.temme.proofs.difference.fraction_square.Lts as lts
+use Rattle.complex.proofs.lost.magnitude.Reads as magnitude-reads
+
+magnitude-requires : tie.Need-magnitude-requires
+magnitude-requires c κs = search needs
+
+returns : tie.Need-returns
+unfolding fractionSquare tolerance
+returns c = simp (← c .before .magnitude .ensures, c .if1 .taken)
+
+returns-2 : tie.Need-returns-2
+unfolding fractionSquare tolerance
+returns-2 c = simp (← c .before .magnitude .ensures, c .if1 .left)
+
+pub fraction-square-spec : {M : Type 1} → statement M
+fraction-square-spec = tie.close (tie.spec magnitude-requires returns returns-2)

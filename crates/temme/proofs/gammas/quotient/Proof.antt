@@ -1,0 +1,26 @@
+-- `temme::gammas::quotient` meets its contract. Assumes nothing.
+use Rattle.temme.specs.Gammas.{differenceQuotient}
+use borrow.Author.Needs.{needs}
+use Rattle.temme.proofs.gammas.quotient.Statement.{statement}
+use Rattle.temme.proofs.gammas.quotient.Tie as tie
+use Rattle.temme.proofs.gammas.quotient.Reads as reads
+use Rattle.temme.proofs.gammas.quotient.Lts as lts
+use Rattle.complex.proofs.lost.magnitude.Reads as magnitude-reads
+use Rattle.temme.proofs.difference.difference.Reads as difference-reads
+
+magnitude-requires : tie.Need-magnitude-requires
+magnitude-requires c κs = search needs
+
+difference-requires : tie.Need-difference-requires
+difference-requires c κs = search needs
+
+returns : tie.Need-returns
+unfolding differenceQuotient
+returns c = simp (c .difference .ensures, ← c .before .before .magnitude .ensures, c .before .if1 .taken)
+
+returns-2 : tie.Need-returns-2
+unfolding differenceQuotient
+returns-2 c = simp (← c .before .magnitude .ensures, c .if1 .left)
+
+pub quotient-spec : {M : Type 1} → statement M
+quotient-spec = tie.close (tie.spec magnitude-requires difference-requires returns returns-2)

@@ -1,0 +1,63 @@
+-- `temme::seeds::seeds` meets its contract. Assumes nothing.
+use mathlib.Core.Path.{_≡_, refl, ap, _∙_}
+use Prim.Native.Nat.{ℕ}
+use Rattle.temme.specs.declared.sum.Terms.{Terms}
+use Rattle.temme.specs.Seeds.{startOf, seedsOf}
+use borrow.Author.Needs.{needs}
+use Rattle.temme.proofs.seeds.seeds.Statement.{statement}
+use Rattle.temme.proofs.seeds.seeds.Tie as tie
+use Rattle.temme.proofs.seeds.seeds.Reads as reads
+use Rattle.temme.proofs.seeds.seeds.Lts as lts
+use Rattle.complex.proofs.number.Complex.times_real.Reads as times-real-reads
+use Rattle.temme.proofs.gammas.gammas_at.Reads as gammas-at-reads
+use Rattle.temme.proofs.hyperbolic.hyperbolic.Reads as hyperbolic-reads
+use Rattle.temme.proofs.seeds.over_fraction.Reads as over-fraction-reads
+use Rattle.temme.proofs.seeds.start.Reads as start-reads
+use Rattle.temme.proofs.seeds.summed.Reads as summed-reads
+
+times-real-requires : tie.Need-times-real-requires
+times-real-requires c κs = search needs
+
+hyperbolic-requires : tie.Need-hyperbolic-requires
+hyperbolic-requires c κs = search needs
+
+over-fraction-requires : tie.Need-over-fraction-requires
+over-fraction-requires c κs = search needs
+
+gammas-at-requires : tie.Need-gammas-at-requires
+gammas-at-requires c κs = search needs
+
+start-requires : tie.Need-start-requires
+start-requires c κs = search needs
+
+summed-requires : tie.Need-summed-requires
+unfolding startOf
+summed-requires c κs = ap (λ (s : Terms). s .terms) (c .start .ensures)
+
+returns : tie.Need-returns
+unfolding seedsOf
+returns c =
+    let d = c .before .before in
+    let e = d .before .before .before .before .before .before .before in
+    simp (
+      d .summed .ensures,
+      d .before .start .ensures,
+      d .before .before .gammas-at .ensures,
+      d .before .before .before .over-fraction .ensures,
+      e .hyperbolic .ensures .0,
+      e .hyperbolic .ensures .1,
+      e .hyperbolic .ensures .2,
+      e .before .times-real .ensures,
+    )
+
+pub seeds-spec : {M : Type 1} → statement M
+seeds-spec =
+    tie.close
+    (tie.spec
+    times-real-requires
+    hyperbolic-requires
+    over-fraction-requires
+    gammas-at-requires
+    start-requires
+    summed-requires
+    returns)

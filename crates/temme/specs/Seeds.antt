@@ -1,0 +1,59 @@
+-- Temme's seeds as `compute_small_z_power_series` of src/amos/right_half_plane.rs (ZBKNU) takes them: l is ln(2/z), m the modulus of z, v the order's fraction and w its square. Definitions only.
+use mathlib.Core.Bool.{cond}
+use lib.Ieee.{Float, binary64, ofBits, le, eq}
+use Rattle.laws.specs.Operators.{_⊗_}
+use Rattle.machine.specs.Constants.{tolerance}
+use Rattle.complex.specs.declared.number.Complex.{Complex}
+use Rattle.complex.specs.Arithmetic.{plusOf, timesReal, overReal, realOver}
+use Rattle.complex.specs.Functions.{complexExpOf, complexCoshOf, complexSinhOf, powerOf}
+use Rattle.temme.specs.declared.gammas.Gammas.{Gammas}
+use Rattle.temme.specs.declared.sum.Ground.{Ground}
+use Rattle.temme.specs.declared.sum.Terms.{Terms}
+use Rattle.temme.specs.declared.seeds.Temme.{Temme}
+use Rattle.temme.specs.Gammas.{gammasOf}
+use Rattle.temme.specs.Sum.{one, sumOf}
+
+-- 0.25 and 0.5
+abbrev pub quarter : Float
+quarter = ofBits binary64 0x3FD0000000000000
+
+abbrev pub half : Float
+half = ofBits binary64 0x3FE0000000000000
+
+-- sinh μ over the fraction, and its limit ln(2/z) at the fraction 0
+unfoldable pub shincOf : Complex → Complex → Float → Complex
+shincOf l sinh v = cond (eq v (ofBits binary64 0)) l (overReal sinh v)
+
+-- |z|²/4, from left to right
+unfoldable pub quarterSquare : Float → Float
+quarterSquare m = quarter ⊗ m ⊗ m
+
+unfoldable pub groundOf : Complex → Float → Float → Float → Ground
+groundOf z m v w = record { «z_sqr_over_4» = timesReal (powerOf z 2) quarter; «abs_z_sqr_over_4» = quarterSquare m; fraction = v; «fraction_square» = w }
+
+-- the sums before their first term, from the reciprocal gammas and from e^μ, cosh μ and sinh μ over the fraction
+unfoldable pub startOf : Gammas → Complex → Complex → Complex → Terms
+startOf g exp cosh shinc =
+    let coeff = timesReal (plusOf (timesReal cosh (g .difference)) (timesReal shinc (g .mean))) (g .«one_over_sinc») in
+    let neg = overReal (timesReal exp half) (g .plus) in
+    record {
+      «temme_coeff» = coeff;
+      «neg_order_term» = neg;
+      «pos_order_term» = overReal (realOver half exp) (g .minus);
+      «taylor_factor» = record { re = one; im = ofBits binary64 0 };
+      «term_magnitude» = one;
+      «sum_k_nu» = coeff;
+      «sum_k_nu_plus_1» = neg;
+      terms = 0;
+    }
+
+-- nothing is added below |z| = 2^-52
+unfoldable pub summedOf : Complex → Float → Float → Float → Terms → Terms
+summedOf z m v w start = cond (le tolerance m) (sumOf (groundOf z m v w) start) start
+
+unfoldable pub seedsOf : Complex → Float → Complex → Float → Float → Temme
+seedsOf z m l v w =
+    let mu = timesReal l v in
+    let shinc = shincOf l (complexSinhOf mu) v in
+    let s = summedOf z m v w (startOf (gammasOf v w) (complexExpOf mu) (complexCoshOf mu) shinc) in
+    record { first = s .«sum_k_nu»; second = s .«sum_k_nu_plus_1»; shinc = shinc; terms = s .terms }

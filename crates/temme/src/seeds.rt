@@ -1,0 +1,97 @@
+// The two seeds from Temme's sum, and sinh μ over the fraction with μ = fraction · ln(2/z), by which the caller tells an overflow.
+// From src/amos/right_half_plane.rs, compute_small_z_power_series (ZBKNU). Promised for every argument: specs/Seeds.antt; below |z| = 2^-52 no term is added.
+ghost use mathlib.Core.Path.{_≡_};
+ghost use Rattle.temme.specs.Seeds.{shincOf, startOf, groundOf, summedOf, seedsOf};
+use crate::gammas::Gammas;
+use crate::gammas::gammas_at;
+use crate::hyperbolic::hyperbolic;
+use crate::sum::Ground;
+use crate::sum::Terms;
+use crate::sum::sum;
+use complex::number::Complex;
+use complex::number::real_over;
+use complex::power::square;
+use machine::constants::Machine;
+
+pub struct Temme {
+    pub first: Complex,
+    pub second: Complex,
+    pub shinc: Complex,
+    pub terms: u32,
+}
+
+pub fn seeds(
+    z: Complex,
+    modulus: f64,
+    ln_two_over_z: Complex,
+    fraction: f64,
+    fraction_square: f64,
+) -> Temme
+    ensures { λ r. ⌜ r ≡ seedsOf z modulus «ln_two_over_z» fraction «fraction_square» ⌝ }
+{
+    let h = hyperbolic(ln_two_over_z.times_real(fraction));
+    let exp = h.exp;
+    let cosh = h.cosh;
+    let sinh = h.sinh;
+    let shinc = over_fraction(ln_two_over_z, sinh, fraction);
+    let begun = start(gammas_at(fraction, fraction_square), exp, cosh, shinc);
+    let s = summed(z, modulus, fraction, fraction_square, begun);
+    let first = s.sum_k_nu;
+    let second = s.sum_k_nu_plus_1;
+    Temme {
+        first,
+        second,
+        shinc,
+        terms: s.terms,
+    }
+}
+
+fn over_fraction(ln_two_over_z: Complex, sinh: Complex, fraction: f64) -> Complex
+    ensures { λ r. ⌜ r ≡ shincOf «ln_two_over_z» sinh fraction ⌝ }
+{
+    if fraction == 0.0 {
+        return ln_two_over_z;
+    }
+    sinh.over_real(fraction)
+}
+
+fn start(g: Gammas, exp: Complex, cosh: Complex, shinc: Complex) -> Terms
+    ensures { λ r. ⌜ r ≡ startOf g exp cosh shinc ⌝ }
+{
+    let temme_coeff = cosh.times_real(g.difference)
+        .plus(shinc.times_real(g.mean))
+        .times_real(g.one_over_sinc);
+    let neg_order_term = exp.times_real(0.5).over_real(g.plus);
+    let pos_order_term = real_over(0.5, exp).over_real(g.minus);
+    Terms {
+        temme_coeff,
+        neg_order_term,
+        pos_order_term,
+        taylor_factor: Complex { re: 1.0, im: 0.0 },
+        term_magnitude: 1.0,
+        sum_k_nu: temme_coeff,
+        sum_k_nu_plus_1: neg_order_term,
+        terms: 0,
+    }
+}
+
+fn ground(z: Complex, modulus: f64, fraction: f64, fraction_square: f64) -> Ground
+    ensures { λ r. ⌜ r ≡ groundOf z modulus fraction «fraction_square» ⌝ }
+{
+    Ground {
+        z_sqr_over_4: square(z).times_real(0.25),
+        abs_z_sqr_over_4: 0.25 * modulus * modulus,
+        fraction,
+        fraction_square,
+    }
+}
+
+fn summed(z: Complex, modulus: f64, fraction: f64, fraction_square: f64, begun: Terms) -> Terms
+    requires { ⌜ begun .terms ≡ 0 ⌝ }
+    ensures { λ r. ⌜ r ≡ summedOf z modulus fraction «fraction_square» begun ⌝ }
+{
+    if modulus >= Machine::TOLERANCE {
+        return sum(ground(z, modulus, fraction, fraction_square), begun);
+    }
+    begun
+}

@@ -3,78 +3,40 @@ use mathlib.Core.Path.{_≡_, refl, ap, _∙_}
 use mathlib.Core.Bool.{Bool, true, false}
 use Prim.Native.Nat.{ℕ, _+_, _≤_, _<_}
 use native.Mathlib.Omega.{arith}
-use lib.Dec.{ltb, eqb}
+use lib.Dec.{ltb}
 use lib.Ieee.{Float, neg, lt, le}
 use borrow.Author.Tests.{ltb-true, ltb-false}
-use Rattle.machine.specs.Constants.{exponentLimit, approximationLimit, absoluteApproximationLimit}
+use Rattle.machine.specs.Constants.{exponentLimit, absoluteApproximationLimit}
 use Rattle.complex.specs.declared.number.Complex.{Complex}
 use Rattle.complex.specs.Arithmetic.{productOf, timesReal}
 use Rattle.complex.specs.Functions.{modulusOf}
 use Rattle.power_series.specs.declared.ground.Ground.{Ground}
-use Rattle.power_series.specs.declared.step.Registers.{Registers}
 use Rattle.power_series.specs.declared.step.Counts.{Counts}
 use Rattle.power_series.specs.declared.step.Descent.{Descent}
 use Rattle.power_series.specs.Orders.{orderAt}
 use Rattle.power_series.specs.Sum.{sumOf}
 use Rattle.power_series.specs.Ground.{complexZero}
-use Rattle.power_series.specs.Step.{leadingOf, markedIf, markedOf, coefficientOf, isGone, longerIf, longerOf, zeroedOf, seededIf, seededOf, keptOf, goneIf, summedOf, seedIf, seedOf, backwardOf, clearedIf, underMark, recurredIf, recurredOf, stepIf, stepOf}
-
--- ---- what the mark, the longest sum and a seed leave alone
-marked-if : (b : Bool) (r : Registers) → markedIf b r .seeded ≡ r .seeded
-unfolding markedIf
-marked-if true r = refl
-marked-if false r = refl
-
-pub marked-seeded : (exponent : Float) (r : Registers) → markedOf exponent r .seeded ≡ r .seeded
-unfolding markedOf
-marked-seeded exponent r = marked-if (le exponent (neg approximationLimit)) r
-
-longer-zeros-if : (b : Bool) (terms : ℕ) (c : Counts) → longerIf b terms c .zeros ≡ c .zeros
-unfolding longerIf
-longer-zeros-if true terms c = refl
-longer-zeros-if false terms c = refl
-
-pub longer-zeros : (terms : ℕ) (c : Counts) → longerOf terms c .zeros ≡ c .zeros
-unfolding longerOf
-longer-zeros terms c = longer-zeros-if (ltb (c .«longest_sum») terms) terms c
-
-longer-rungs-if : (b : Bool) (terms : ℕ) (c : Counts) → longerIf b terms c .rungs ≡ c .rungs
-unfolding longerIf
-longer-rungs-if true terms c = refl
-longer-rungs-if false terms c = refl
-
-longer-rungs : (terms : ℕ) (c : Counts) → longerOf terms c .rungs ≡ c .rungs
-unfolding longerOf
-longer-rungs terms c = longer-rungs-if (ltb (c .«longest_sum») terms) terms c
-
-seeded-if : (b : Bool) (value : Complex) (r : Registers) → seededIf b value r .seeded ≡ r .seeded + 1
-unfolding seededIf
-seeded-if true value r = refl
-seeded-if false value r = refl
-
-seeded-more : (value : Complex) (r : Registers) → seededOf value r .seeded ≡ r .seeded + 1
-unfolding seededOf
-seeded-more value r = seeded-if (eqb (r .seeded) 0) value r
+use Rattle.power_series.specs.Step.{leadingOf, markedOf, coefficientOf, isGone, zeroedOf, keptOf, goneIf, summedOf, seedIf, seedOf, backwardOf, clearedIf, underMark, recurredIf, recurredOf, stepIf, stepOf}
 
 -- ---- the three ways, from s to t
 pub record Zeroed (g : Ground) (k : ℕ) (s t : Descent) : Type 0 where
-  pub open-seed : s .registers .seeded < 2
-  pub seeded : t .registers .seeded ≡ s .registers .seeded
+  pub open-seed : s .seeded < 2
+  pub seeded : t .seeded ≡ s .seeded
   pub zeros : t .counts .zeros ≡ s .counts .zeros + 1
   pub rungs : t .counts .rungs ≡ s .counts .rungs
   pub entry : t .above ≡ complexZero
   pub stopped : t .stopped ≡ lt (orderAt (g .order) k) (g .«abs_half_z_sq»)
 
 pub record Kept (s t : Descent) : Type 0 where
-  pub open-seed : s .registers .seeded < 2
-  pub seeded : t .registers .seeded ≡ s .registers .seeded + 1
+  pub open-seed : s .seeded < 2
+  pub seeded : t .seeded ≡ s .seeded + 1
   pub zeros : t .counts .zeros ≡ s .counts .zeros
   pub rungs : t .counts .rungs ≡ s .counts .rungs
   pub stopped : t .stopped ≡ false
 
 pub record Recurred (s t : Descent) : Type 0 where
-  pub both : 2 ≤ s .registers .seeded
-  pub seeded : t .registers .seeded ≡ s .registers .seeded
+  pub both : 2 ≤ s .seeded
+  pub seeded : t .seeded ≡ s .seeded
   pub zeros : t .counts .zeros ≡ s .counts .zeros
   pub rungs : t .counts .rungs ≡ s .counts .rungs + 1
   pub stopped : t .stopped ≡ false
@@ -88,58 +50,43 @@ module _ (g : Ground) (k : ℕ) (s : Descent) where
   abbrev order : Float
   order = orderAt (g .order) k
 
-  by-value : (b : Bool) (value lead : Complex) (terms : ℕ) → s .registers .seeded < 2 → Did g k s (goneIf b g order value (markedOf (lead .re) (s .registers)) (longerOf terms (s .counts)))
-  unfolding goneIf zeroedOf keptOf
-  by-value true value lead terms h =
-      zeroed (record {
-        open-seed = h;
-        seeded = marked-seeded (lead .re) (s .registers);
-        zeros = ap (λ (n : ℕ). n + 1) (longer-zeros terms (s .counts));
-        rungs = longer-rungs terms (s .counts);
-        entry = refl;
-        stopped = refl;
-      })
-  by-value false value lead terms h =
-      kept (record {
-        open-seed = h;
-        seeded = seeded-more value (markedOf (lead .re) (s .registers)) ∙ ap (λ (n : ℕ). n + 1) (marked-seeded (lead .re) (s .registers));
-        zeros = longer-zeros terms (s .counts);
-        rungs = longer-rungs terms (s .counts);
-        stopped = refl;
-      })
+  by-value : (b : Bool) (value lead : Complex) (terms : ℕ) → s .seeded < 2 → Did g k s (goneIf b g order value (markedOf (lead .re) terms s))
+  unfolding goneIf zeroedOf keptOf markedOf
+  by-value true value lead terms h = zeroed (record { open-seed = h; seeded = refl; zeros = refl; rungs = refl; entry = refl; stopped = refl })
+  by-value false value lead terms h = kept (record { open-seed = h; seeded = refl; zeros = refl; rungs = refl; stopped = refl })
 
-  by-exponent : (b : Bool) (lead : Complex) → s .registers .seeded < 2 → Did g k s (seedIf b g order lead (s .registers) (s .counts))
+  by-exponent : (b : Bool) (lead : Complex) → s .seeded < 2 → Did g k s (seedIf b g order lead s)
   unfolding seedIf zeroedOf summedOf
   by-exponent true lead h = zeroed (record { open-seed = h; seeded = refl; zeros = refl; rungs = refl; entry = refl; stopped = refl })
   by-exponent false lead h =
-      let m = markedOf (lead .re) (s .registers) in
       let sum = sumOf order (g .«half_z_sq») (g .«abs_half_z_sq») in
+      let m = markedOf (lead .re) (sum .terms) s in
       let value = productOf (sum .value) (coefficientOf lead (m .«near_underflow»)) in
       by-value (isGone (m .«near_underflow») value) value lead (sum .terms) h
 
   abbrev counted : Counts
   counted = record { zeros = s .counts .zeros; «longest_sum» = s .counts .«longest_sum»; rungs = s .counts .rungs + 1 }
 
-  by-modulus : (b : Bool) (entry next : Complex) → 2 ≤ s .registers .seeded → Did g k s (clearedIf b entry next (s .registers) counted (s .above))
+  by-modulus : (b : Bool) (entry next : Complex) → 2 ≤ s .seeded → Did g k s (clearedIf b entry next counted s)
   unfolding clearedIf
   by-modulus true entry next h = recurred (record { both = h; seeded = refl; zeros = refl; rungs = refl; stopped = refl })
   by-modulus false entry next h = recurred (record { both = h; seeded = refl; zeros = refl; rungs = refl; stopped = refl })
 
-  by-mark : (b : Bool) (next : Complex) → 2 ≤ s .registers .seeded → Did g k s (recurredIf b next (s .registers) counted (s .above))
+  by-mark : (b : Bool) (next : Complex) → 2 ≤ s .seeded → Did g k s (recurredIf b next counted s)
   unfolding recurredIf underMark
   by-mark true next h =
-      let entry = timesReal next (s .registers .«scale_factor») in
+      let entry = timesReal next (s .«scale_factor») in
       by-modulus (lt absoluteApproximationLimit (modulusOf entry)) entry next h
   by-mark false next h = recurred (record { both = h; seeded = refl; zeros = refl; rungs = refl; stopped = refl })
 
-  by-seeds : (b : Bool) → ltb (s .registers .seeded) 2 ≡ b → Did g k s (stepIf b g k s)
+  by-seeds : (b : Bool) → ltb (s .seeded) 2 ≡ b → Did g k s (stepIf b g k s)
   unfolding stepIf seedOf recurredOf
-  by-seeds true e = by-exponent (le (leadingOf g order .re) (neg exponentLimit)) (leadingOf g order) (ltb-true (s .registers .seeded) 2 e)
-  by-seeds false e = by-mark (s .registers .«near_underflow») (backwardOf g k (s .registers .«y_k_plus_2») (s .registers .«y_k_plus_1»)) (ltb-false (s .registers .seeded) 2 e)
+  by-seeds true e = by-exponent (le (leadingOf g order .re) (neg exponentLimit)) (leadingOf g order) (ltb-true (s .seeded) 2 e)
+  by-seeds false e = by-mark (s .«near_underflow») (backwardOf g k (s .«y_k_plus_2») (s .«y_k_plus_1»)) (ltb-false (s .seeded) 2 e)
 
   pub did : Did g k s (stepOf g k s)
   unfolding stepOf
-  did = by-seeds (ltb (s .registers .seeded) 2) refl
+  did = by-seeds (ltb (s .seeded) 2) refl
 
 -- no count grows by more than one
 pub zeros-grow : (g : Ground) (k : ℕ) (s : Descent) → stepOf g k s .counts .zeros ≤ s .counts .zeros + 1

@@ -24,7 +24,7 @@ nought = ofBits binary64 0
 
 -- the orders that are done
 abbrev pub ordersOf : Descent → ℕ
-ordersOf s = s .counts .zeros + s .registers .seeded + s .counts .rungs
+ordersOf s = s .counts .zeros + s .seeded + s .counts .rungs
 
 -- of n orders i are done
 pub record Along (n i : ℕ) (w : Walk) : Type 0 where

@@ -30,37 +30,37 @@ walkAfter g n i = run stopping (stepping g) i 0 (startWalk n)
 pub record Wanted (w : Walk) : Type 0 where
   pub on : w .reached .state .stopped ≡ false
   pub more : 0 < w .reached .left
-  pub seeds : w .reached .state .registers .seeded < 2
+  pub seeds : w .reached .state .seeded < 2
 
 module _ (g : Ground) (m : Float) (n : ℕ) (square : g .«abs_half_z_sq» ≡ halfSquare m) (passed : beyondSeries (g .order) n m ≡ false) where
   abbrev Open : Walk → Type 0
-  Open w = Wanted w → Reached (g .order) n m (w .reached .left - 1) (ltb 0 (w .reached .state .registers .seeded))
+  Open w = Wanted w → Reached (g .order) n m (w .reached .left - 1) (ltb 0 (w .reached .state .seeded))
 
   opens : Open (startWalk n)
   unfolding startWalk startDescent
   opens h = start passed
 
-  module _ (left : ℕ) (s t : Descent) (before : s .registers .seeded < 2 → Reached (g .order) n m (left - 1) (ltb 0 (s .registers .seeded))) where
+  module _ (left : ℕ) (s t : Descent) (before : s .seeded < 2 → Reached (g .order) n m (left - 1) (ltb 0 (s .seeded))) where
     down : (k : ℕ) {b : Bool} → left - 1 ≡ suc k → Reached (g .order) n m (left - 1) b → Reached (g .order) n m (suc k) b
     down k {b} e r = subst (λ (j : ℕ). Reached (g .order) n m j b) e r
 
-    by-zero : (k : ℕ) → left - 1 ≡ suc k → Zeroed g (left - 1) s t → t .stopped ≡ false → Reached (g .order) n m k (ltb 0 (t .registers .seeded))
+    by-zero : (k : ℕ) → left - 1 ≡ suc k → Zeroed g (left - 1) s t → t .stopped ≡ false → Reached (g .order) n m k (ltb 0 (t .seeded))
     by-zero k e z o =
         let below : lt (orderAt (g .order) (suc k)) (halfSquare m) ≡ false =
         ap (λ (j : ℕ). lt (orderAt (g .order) j) (halfSquare m)) (sym e) ∙ ap (lt (orderAt (g .order) (left - 1))) (sym square) ∙ sym (z .stopped) ∙ o in
         subst (λ (q : ℕ). Reached (g .order) n m k (ltb 0 q)) (sym (z .seeded)) (past-zero below (down k e (before (z .open-seed))))
 
-    by-seed : (k : ℕ) → left - 1 ≡ suc k → Kept s t → t .registers .seeded < 2 → Reached (g .order) n m k (ltb 0 (t .registers .seeded))
+    by-seed : (k : ℕ) → left - 1 ≡ suc k → Kept s t → t .seeded < 2 → Reached (g .order) n m k (ltb 0 (t .seeded))
     by-seed k e z h =
-        let count : t .registers .seeded ≡ s .registers .seeded + 1 = z .seeded in
-        let none : ltb 0 (s .registers .seeded) ≡ false = le-ltb 0 (s .registers .seeded) (omega arith) in
-        let one : ltb 0 (t .registers .seeded) ≡ true = lt-ltb 0 (t .registers .seeded) (omega arith) in
+        let count : t .seeded ≡ s .seeded + 1 = z .seeded in
+        let none : ltb 0 (s .seeded) ≡ false = le-ltb 0 (s .seeded) (omega arith) in
+        let one : ltb 0 (t .seeded) ≡ true = lt-ltb 0 (t .seeded) (omega arith) in
         subst (λ (b : Bool). Reached (g .order) n m k b) (sym one) (past-seed (down k e (subst (λ (b : Bool). Reached (g .order) n m (left - 1) b) none (before (z .open-seed)))))
 
-    by-way : (k : ℕ) → left - 1 ≡ suc k → Did g (left - 1) s t → t .stopped ≡ false → t .registers .seeded < 2 → Reached (g .order) n m k (ltb 0 (t .registers .seeded))
+    by-way : (k : ℕ) → left - 1 ≡ suc k → Did g (left - 1) s t → t .stopped ≡ false → t .seeded < 2 → Reached (g .order) n m k (ltb 0 (t .seeded))
     by-way k e (zeroed z) o h = by-zero k e z o
     by-way k e (kept z) o h = by-seed k e z h
-    by-way k e (recurred z) o h = absurd (full (s .registers .seeded) (t .registers .seeded) (z .both) (z .seeded) h)
+    by-way k e (recurred z) o h = absurd (full (s .seeded) (t .seeded) (z .both) (z .seeded) h)
       where
         full : (a b : ℕ) → 2 ≤ a → b ≡ a → b < 2 → ⊥
         full a b p q r = omega arith
@@ -74,7 +74,7 @@ module _ (g : Ground) (m : Float) (n : ℕ) (square : g .«abs_half_z_sq» ≡ h
       let more : 0 < left - 1 = h .more in
       by-way left s t (λ q. o (record { on = e; more = omega arith; seeds = q })) (left - 1 - 1) (omega arith) (did g (left - 1) s) (h .on) (h .seeds)
 
-  pub wanted-reached : (i : ℕ) → Wanted (walkAfter g n i) → Reached (g .order) n m (walkAfter g n i .reached .left - 1) (ltb 0 (walkAfter g n i .reached .state .registers .seeded))
+  pub wanted-reached : (i : ℕ) → Wanted (walkAfter g n i) → Reached (g .order) n m (walkAfter g n i .reached .left - 1) (ltb 0 (walkAfter g n i .reached .state .seeded))
   wanted-reached i = run-ends stopping (stepping g) (λ j w. Open w) keeps i 0 (startWalk n) opens .holds
 
 -- the visit at z, of modulus m, over n orders from v up: wherever it wants a seed and its sum is not 1 at once
@@ -87,6 +87,6 @@ unfolding groundOf
 visit-sums-end scaled turned v z m n limit bound few passed i h e =
     let g = groundOf scaled turned v z m in
     let k = walkAfter g n i .reached .left - 1 in
-    let r : Reached v n m k (ltb 0 (walkAfter g n i .reached .state .registers .seeded)) = wanted-reached g m n refl passed i h in
+    let r : Reached v n m k (ltb 0 (walkAfter g n i .reached .state .seeded)) = wanted-reached g m n refl passed i h in
     sum-ends (g .«half_z_sq») (halfSquare m) (orderPlusOne v k)
-    (visited v limit k (ltb 0 (walkAfter g n i .reached .state .registers .seeded)) (halfSquare m) (reached-low v limit n few m bound r) (reached-below v limit n few m bound r) e)
+    (visited v limit k (ltb 0 (walkAfter g n i .reached .state .seeded)) (halfSquare m) (reached-low v limit n few m bound r) (reached-below v limit n few m bound r) e)

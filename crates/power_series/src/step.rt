@@ -3,22 +3,13 @@
 // Near underflow the registers hold 2^52 times their values, until an entry's modulus exceeds A.
 ghost use mathlib.Core.Path.{_≡_};
 ghost use Prim.Native.Nat.{_+_, _<_, _^_};
-ghost use Rattle.power_series.specs.Step.{startDescent, markedOf, leadingOf, zeroedOf, seededOf, keptOf, coefficientOf, isGone, longerOf, summedOf, seedOf, backwardOf, underMark, recurredOf, stepOf};
+ghost use Rattle.power_series.specs.Step.{startDescent, markOf, scaleOf, longestOf, markedOf, leadingOf, zeroedOf, seedOr, keptOf, coefficientOf, isGone, summedOf, seedOf, backwardOf, underMark, recurredOf, stepOf};
 use crate::ground::Ground;
 use crate::sum::single_n_iteration;
 use complex::lost::lost;
 use complex::number::Complex;
 use gamma_ln::gamma_ln::gamma_ln;
 use machine::constants::Machine;
-
-// How many orders are seeded, the last two values, on scale, and what takes them off it.
-pub struct Registers {
-    pub seeded: u32,
-    pub y_k_plus_2: Complex,
-    pub y_k_plus_1: Complex,
-    pub near_underflow: bool,
-    pub scale_factor: f64,
-}
 
 // The orders set to zero, the terms of the longest sum, and the steps of the recurrence.
 pub struct Counts {
@@ -27,11 +18,16 @@ pub struct Counts {
     pub rungs: u32,
 }
 
-// The state between two orders, with the entry of the one above, and whether the visit stops there.
+// The state between two orders: the last two values, on scale, the entry of the order above, what takes a value off the scale, and how many
+// orders are seeded. The types leave no byte of padding, which the compiler would carry through memory from order to order.
 pub struct Descent {
-    pub registers: Registers,
-    pub counts: Counts,
+    pub y_k_plus_2: Complex,
+    pub y_k_plus_1: Complex,
     pub above: Complex,
+    pub scale_factor: f64,
+    pub counts: Counts,
+    pub seeded: u16,
+    pub near_underflow: bool,
     pub stopped: bool,
 }
 
@@ -40,38 +36,19 @@ pub fn start() -> Descent
 {
     let zero = Complex { re: 0.0, im: 0.0 };
     Descent {
-        registers: Registers {
-            seeded: 0,
-            y_k_plus_2: zero,
-            y_k_plus_1: zero,
-            near_underflow: false,
-            scale_factor: 1.0,
-        },
+        y_k_plus_2: zero,
+        y_k_plus_1: zero,
+        above: zero,
+        scale_factor: 1.0,
         counts: Counts {
             zeros: 0,
             longest_sum: 0,
             rungs: 0,
         },
-        above: zero,
+        seeded: 0,
+        near_underflow: false,
         stopped: false,
     }
-}
-
-fn marked(exponent: f64, r: Registers) -> Registers
-    ensures { λ m. ⌜ m ≡ markedOf exponent r ⌝ }
-{
-    let older = r.y_k_plus_2;
-    let newer = r.y_k_plus_1;
-    if exponent <= -Machine::APPROXIMATION_LIMIT {
-        return Registers {
-            seeded: r.seeded,
-            y_k_plus_2: older,
-            y_k_plus_1: newer,
-            near_underflow: true,
-            scale_factor: Machine::TOLERANCE,
-        };
-    }
-    r
 }
 
 fn leading(g: Ground, order: f64) -> Complex
@@ -86,54 +63,105 @@ fn leading(g: Ground, order: f64) -> Complex
     lead
 }
 
-fn zeroed(g: Ground, order: f64, r: Registers, c: Counts) -> Descent
-    requires { ⌜ c .zeros + 1 < 2 ^ 32 ⌝ }
-    ensures { λ s. ⌜ s ≡ zeroedOf g order r c ⌝ }
+fn mark(exponent: f64, near_underflow: bool) -> bool
+    ensures { λ r. ⌜ r ≡ markOf exponent «near_underflow» ⌝ }
 {
+    if exponent <= -Machine::APPROXIMATION_LIMIT {
+        return true;
+    }
+    near_underflow
+}
+
+fn scale(exponent: f64, scale_factor: f64) -> f64
+    ensures { λ r. ⌜ r ≡ scaleOf exponent «scale_factor» ⌝ }
+{
+    if exponent <= -Machine::APPROXIMATION_LIMIT {
+        return Machine::TOLERANCE;
+    }
+    scale_factor
+}
+
+fn longest(terms: u32, longest_sum: u32) -> u32
+    ensures { λ r. ⌜ r ≡ longestOf terms «longest_sum» ⌝ }
+{
+    if longest_sum < terms {
+        return terms;
+    }
+    longest_sum
+}
+
+fn marked(exponent: f64, terms: u32, s: Descent) -> Descent
+    ensures { λ r. ⌜ r ≡ markedOf exponent terms s ⌝ }
+{
+    let older = s.y_k_plus_2;
+    let newer = s.y_k_plus_1;
+    let above = s.above;
+    let c = s.counts;
     Descent {
-        registers: r,
+        y_k_plus_2: older,
+        y_k_plus_1: newer,
+        above,
+        scale_factor: scale(exponent, s.scale_factor),
+        counts: Counts {
+            zeros: c.zeros,
+            longest_sum: longest(terms, c.longest_sum),
+            rungs: c.rungs,
+        },
+        seeded: s.seeded,
+        near_underflow: mark(exponent, s.near_underflow),
+        stopped: s.stopped,
+    }
+}
+
+fn zeroed(g: Ground, order: f64, s: Descent) -> Descent
+    requires { ⌜ s .counts .zeros + 1 < 2 ^ 32 ⌝ }
+    ensures { λ r. ⌜ r ≡ zeroedOf g order s ⌝ }
+{
+    let older = s.y_k_plus_2;
+    let newer = s.y_k_plus_1;
+    let c = s.counts;
+    Descent {
+        y_k_plus_2: older,
+        y_k_plus_1: newer,
+        above: Complex { re: 0.0, im: 0.0 },
+        scale_factor: s.scale_factor,
         counts: Counts {
             zeros: c.zeros + 1,
             longest_sum: c.longest_sum,
             rungs: c.rungs,
         },
-        above: Complex { re: 0.0, im: 0.0 },
+        seeded: s.seeded,
+        near_underflow: s.near_underflow,
         stopped: g.abs_half_z_sq > order,
     }
 }
 
-fn seeded(value: Complex, r: Registers) -> Registers
-    requires { ⌜ r .seeded < 2 ⌝ }
-    ensures { λ s. ⌜ s ≡ seededOf value r ⌝ }
+fn seed_or(seeds: bool, value: Complex, other: Complex) -> Complex
+    ensures { λ r. ⌜ r ≡ seedOr seeds value other ⌝ }
 {
-    let older = r.y_k_plus_2;
-    let newer = r.y_k_plus_1;
-    if r.seeded == 0 {
-        return Registers {
-            seeded: r.seeded + 1,
-            y_k_plus_2: value,
-            y_k_plus_1: newer,
-            near_underflow: r.near_underflow,
-            scale_factor: r.scale_factor,
-        };
+    if seeds {
+        return value;
     }
-    Registers {
-        seeded: r.seeded + 1,
-        y_k_plus_2: older,
-        y_k_plus_1: value,
-        near_underflow: r.near_underflow,
-        scale_factor: r.scale_factor,
-    }
+    other
 }
 
-fn kept(value: Complex, r: Registers, c: Counts) -> Descent
-    requires { ⌜ r .seeded < 2 ⌝ }
-    ensures { λ s. ⌜ s ≡ keptOf value r c ⌝ }
+// the first seed is the older value, the second the newer one
+fn kept(value: Complex, s: Descent) -> Descent
+    requires { ⌜ s .seeded < 2 ⌝ }
+    ensures { λ r. ⌜ r ≡ keptOf value s ⌝ }
 {
+    let older = s.y_k_plus_2;
+    let newer = s.y_k_plus_1;
+    let c = s.counts;
+    let first = s.seeded == 0;
     Descent {
-        registers: seeded(value, r),
+        y_k_plus_2: seed_or(first, value, older),
+        y_k_plus_1: seed_or(!first, value, newer),
+        above: value.times_real(s.scale_factor),
+        scale_factor: s.scale_factor,
         counts: c,
-        above: value.times_real(r.scale_factor),
+        seeded: s.seeded + 1,
+        near_underflow: s.near_underflow,
         stopped: false,
     }
 }
@@ -157,44 +185,30 @@ fn is_gone(near_underflow: bool, value: Complex) -> bool
     false
 }
 
-fn longer(terms: u32, c: Counts) -> Counts
-    ensures { λ r. ⌜ r ≡ longerOf terms c ⌝ }
-{
-    if c.longest_sum < terms {
-        return Counts {
-            zeros: c.zeros,
-            longest_sum: terms,
-            rungs: c.rungs,
-        };
-    }
-    c
-}
-
-fn summed(g: Ground, order: f64, lead: Complex, r: Registers, c: Counts) -> Descent
-    requires { ⌜ (r .seeded < 2) × (c .zeros + 1 < 2 ^ 32) ⌝ }
-    ensures { λ s. ⌜ s ≡ summedOf g order lead r c ⌝ }
+fn summed(g: Ground, order: f64, lead: Complex, s: Descent) -> Descent
+    requires { ⌜ (s .seeded < 2) × (s .counts .zeros + 1 < 2 ^ 32) ⌝ }
+    ensures { λ r. ⌜ r ≡ summedOf g order lead s ⌝ }
 {
     let half_z_sq = g.half_z_sq;
-    let m = marked(lead.re, r);
     let sum = single_n_iteration(order, half_z_sq, g.abs_half_z_sq);
-    let counts = longer(sum.terms, c);
+    let m = marked(lead.re, sum.terms, s);
     let series_sum = sum.value;
     let value = series_sum.product(coefficient(lead, m.near_underflow));
     if is_gone(m.near_underflow, value) {
-        return zeroed(g, order, m, counts);
+        return zeroed(g, order, m);
     }
-    kept(value, m, counts)
+    kept(value, m)
 }
 
-fn seed(g: Ground, order: f64, r: Registers, c: Counts) -> Descent
-    requires { ⌜ (r .seeded < 2) × (c .zeros + 1 < 2 ^ 32) ⌝ }
-    ensures { λ s. ⌜ s ≡ seedOf g order r c ⌝ }
+fn seed(g: Ground, order: f64, s: Descent) -> Descent
+    requires { ⌜ (s .seeded < 2) × (s .counts .zeros + 1 < 2 ^ 32) ⌝ }
+    ensures { λ r. ⌜ r ≡ seedOf g order s ⌝ }
 {
     let lead = leading(g, order);
     if lead.re <= -Machine::EXPONENT_LIMIT {
-        return zeroed(g, order, r, c);
+        return zeroed(g, order, s);
     }
-    summed(g, order, lead, r, c)
+    summed(g, order, lead, s)
 }
 
 fn backward(g: Ground, k: u32, older: Complex, newer: Complex) -> Complex
@@ -211,64 +225,60 @@ fn backward(g: Ground, k: u32, older: Complex, newer: Complex) -> Complex
 }
 
 // once off the scale the registers take the entries themselves
-fn under_mark(next: Complex, r: Registers, c: Counts, above: Complex) -> Descent
-    ensures { λ s. ⌜ s ≡ underMark next r c above ⌝ }
+fn under_mark(next: Complex, counts: Counts, s: Descent) -> Descent
+    ensures { λ r. ⌜ r ≡ underMark next counts s ⌝ }
 {
-    let newer = r.y_k_plus_1;
-    let entry = next.times_real(r.scale_factor);
+    let newer = s.y_k_plus_1;
+    let above = s.above;
+    let entry = next.times_real(s.scale_factor);
     if entry.modulus() > Machine::ABSOLUTE_APPROXIMATION_LIMIT {
         return Descent {
-            registers: Registers {
-                seeded: r.seeded,
-                y_k_plus_2: above,
-                y_k_plus_1: entry,
-                near_underflow: false,
-                scale_factor: r.scale_factor,
-            },
-            counts: c,
+            y_k_plus_2: above,
+            y_k_plus_1: entry,
             above: entry,
+            scale_factor: s.scale_factor,
+            counts,
+            seeded: s.seeded,
+            near_underflow: false,
             stopped: false,
         };
     }
     Descent {
-        registers: Registers {
-            seeded: r.seeded,
-            y_k_plus_2: newer,
-            y_k_plus_1: next,
-            near_underflow: true,
-            scale_factor: r.scale_factor,
-        },
-        counts: c,
+        y_k_plus_2: newer,
+        y_k_plus_1: next,
         above: entry,
+        scale_factor: s.scale_factor,
+        counts,
+        seeded: s.seeded,
+        near_underflow: true,
         stopped: false,
     }
 }
 
-fn recurred(g: Ground, k: u32, r: Registers, c: Counts, above: Complex) -> Descent
-    requires { ⌜ (k + 1 < 2 ^ 32) × (c .rungs + 1 < 2 ^ 32) ⌝ }
-    ensures { λ s. ⌜ s ≡ recurredOf g k r c above ⌝ }
+fn recurred(g: Ground, k: u32, s: Descent) -> Descent
+    requires { ⌜ (k + 1 < 2 ^ 32) × (s .counts .rungs + 1 < 2 ^ 32) ⌝ }
+    ensures { λ r. ⌜ r ≡ recurredOf g k s ⌝ }
 {
-    let older = r.y_k_plus_2;
-    let newer = r.y_k_plus_1;
+    let older = s.y_k_plus_2;
+    let newer = s.y_k_plus_1;
+    let c = s.counts;
     let next = backward(g, k, older, newer);
     let counts = Counts {
         zeros: c.zeros,
         longest_sum: c.longest_sum,
         rungs: c.rungs + 1,
     };
-    if r.near_underflow {
-        return under_mark(next, r, counts, above);
+    if s.near_underflow {
+        return under_mark(next, counts, s);
     }
     Descent {
-        registers: Registers {
-            seeded: r.seeded,
-            y_k_plus_2: newer,
-            y_k_plus_1: next,
-            near_underflow: false,
-            scale_factor: r.scale_factor,
-        },
-        counts,
+        y_k_plus_2: newer,
+        y_k_plus_1: next,
         above: next,
+        scale_factor: s.scale_factor,
+        counts,
+        seeded: s.seeded,
+        near_underflow: false,
         stopped: false,
     }
 }
@@ -277,11 +287,8 @@ pub fn step(g: Ground, k: u32, s: Descent) -> Descent
     requires { ⌜ (k + 1 < 2 ^ 32) × (s .counts .zeros + 1 < 2 ^ 32) × (s .counts .rungs + 1 < 2 ^ 32) ⌝ }
     ensures { λ r. ⌜ r ≡ stepOf g k s ⌝ }
 {
-    let r = s.registers;
-    let c = s.counts;
-    let above = s.above;
-    if r.seeded < 2 {
-        return seed(g, g.order + (k as f64), r, c);
+    if s.seeded < 2 {
+        return seed(g, g.order + (k as f64), s);
     }
-    recurred(g, k, r, c, above)
+    recurred(g, k, s)
 }

@@ -1,19 +1,18 @@
 -- Temme's difference series ends by its own test, and never for want of coefficients: for |ν| ≤ 0.1 the seventh term of the eight passes it, if none before has.
 -- The largest ν² is computed, and products keep the order. Assumes nothing.
 use mathlib.Core.Path.{_≡_, refl, sym, ap, _∙_, subst}
-use mathlib.Core.Bool.{Bool, true, false, not, cond}
+use mathlib.Core.Bool.{Bool, true, false, cond}
 use mathlib.Core.Logic.{_⊎_, inl, inr}
 use Prim.Native.Nat.{ℕ, zero, suc, _+_, _^_, _≤_, _<_}
-use native.Mathlib.Numerals.{add-one}
 use native.Mathlib.Omega.{arith}
 use lib.Dec.{T, lit<}
 use lib.ListN.{getD}
-use lib.Ieee.{Float, nan, inf, fin, binary64, ofBits, neg, mul, lt, le}
+use lib.Ieee.{Float, nan, binary64, ofBits, neg, mul, lt, le}
 use lib.Ieee.Positive.{num, den}
 use Rattle.laws.specs.Iterate.{iterate}
 use Rattle.laws.proofs.Relative.{nonnegative}
-use Rattle.laws.proofs.Bound.{Up, Lo, up-of, up-test, lo-test, up-of-le, up-weaken, up-lo-lt, every, every-at}
-use Rattle.laws.proofs.First.{First, first, passed, run-first}
+use Rattle.laws.proofs.Bound.{Up, Lo, up-of, up-test, lo-test, up-weaken, up-lo-lt, every, every-at}
+use Rattle.laws.proofs.First.{first, passed}
 use Rattle.laws.proofs.Sign.{mul-neg-neg}
 use Rattle.machine.specs.Constants.{tolerance}
 use Rattle.complex.specs.Lost.{magnitudeOf}
@@ -21,6 +20,7 @@ use Rattle.complex.specs.Functions.{realPowerOf}
 use Rattle.temme.specs.declared.difference.Partial.{Partial}
 use Rattle.temme.specs.Difference.{differenceCoefficients, fractionSquare, startSeries, withTerm, seriesOf, SeriesEnds}
 use Rattle.temme.specs.Sum.{one}
+use Rattle.temme.proofs.Counted.{after-count, run-counted}
 use Rattle.temme.proofs.TemmeBound.{mul-up-round}
 use Rattle.temme.proofs.Magnitudes.{magnitude-bare, magnitude-up}
 
@@ -89,40 +89,37 @@ module _ (w : Float) (bound : Up w (num hundredth) (den hundredth)) where
 
 -- ---- the sum after i terms
 module _ (w : Float) where
-  after : ℕ → Partial
+  abbrev after : ℕ → Partial
   after i = iterate i (withTerm w) startSeries
 
-  after-next : (i : ℕ) → after (suc i) ≡ withTerm w (after i)
-  unfolding after iterate
-  after-next i = refl
+  none : startSeries .count ≡ 0
+  unfolding startSeries
+  none = refl
 
-  after-count : (i : ℕ) → after i .count ≡ i
-  unfolding after iterate withTerm startSeries
-  after-count zero = refl
-  after-count (suc i) = ap (λ (n : ℕ). n + 1) (after-count i) ∙ add-one i
+  counts : (s : Partial) → withTerm w s .count ≡ s .count + 1
+  unfolding withTerm
+  counts s = refl
 
   after-power : (i : ℕ) → after i .power ≡ realPowerOf w i
-  unfolding after iterate withTerm startSeries realPowerOf
+  unfolding iterate withTerm startSeries realPowerOf
   after-power zero = refl
   after-power (suc i) = ap (λ (p : Float). mul binary64 p w) (after-power i)
 
   after-done : (i : ℕ) → after (suc i) .done ≡ ends w i
-  unfolding after iterate withTerm ends term
-  after-done i = rw (after-count i, after-power i)
+  unfolding iterate withTerm ends term
+  after-done i = rw (after-count (λ s. s .done) (withTerm w) (λ s. s .count) startSeries none counts i, after-power i)
 
   begun : after 0 .done ≡ false
-  unfolding after iterate startSeries
+  unfolding iterate startSeries
   begun = refl
 
   pub series-ends : Up w (num hundredth) (den hundredth) → SeriesEnds (seriesOf w)
-  unfolding seriesOf after iterate
+  unfolding seriesOf
   series-ends bound =
       let e = first true (ends w) 6 (meets w bound) in
-      let n = suc (e .0) in
-      let f : First true (λ i. after i .done) n = record { here = after-done (e .0) ∙ e .2 .here; before = before (e .0) (e .2 .before) } in
-      let r : seriesOf w ≡ after n = run-first (λ i s. s .done) (λ i s. withTerm w s) after after-next n 8 (omega arith) f in
-      let t : seriesOf w .count ≡ n = ap (λ (s : Partial). s .count) r ∙ after-count n in
-      record { few = omega arith; test = ap (λ (s : Partial). s .done) r ∙ f .here }
+      let h : suc (e .0) ≤ 8 = omega arith in
+      let r = run-counted (λ s. s .done) (withTerm w) (λ s. s .count) startSeries none counts 8 (suc (e .0)) h (record { here = after-done (e .0) ∙ e .2 .here; before = before (e .0) (e .2 .before) }) in
+      record { few = subst (λ (k : ℕ). k ≤ 7) (sym (r .1)) (omega arith); test = r .0 }
     where
       before : (k : ℕ) → ((i : ℕ) → i < k → ends w i ≡ false) → (i : ℕ) → i < suc k → after i .done ≡ false
       before k b zero h = begun

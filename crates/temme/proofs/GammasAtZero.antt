@@ -1,5 +1,5 @@
 -- The reciprocal gammas at the fraction 0: each is 1, and so is their mean. Assumes nothing.
-use mathlib.Core.Path.{_≡_, refl, sym, ap, _∙_, subst}
+use mathlib.Core.Path.{_≡_, refl, ap, _∙_}
 use mathlib.Core.Bool.{Bool, true, false}
 use lib.Dec.{T}
 use lib.Ieee.{Float, binary64, ofBits, toUnsigned, fits, neg, add, mul, div, lt, le, eq, round}

@@ -1,13 +1,13 @@
 -- What a bound on a magnitude says of the value: it is a number without a minus sign below the bound, or the opposite of one. Assumes nothing.
-use mathlib.Core.Path.{_≡_, refl, sym, ap, _∙_, subst}
+use mathlib.Core.Path.{_≡_, refl, sym, subst}
 use mathlib.Core.Bool.{Bool, true, false, cond}
 use mathlib.Core.Logic.{_⊎_, inl, inr}
-use Prim.Native.Nat.{ℕ, zero, suc, _+_, _*_, _≤_, _<_}
+use Prim.Native.Nat.{ℕ, _+_, _*_, _≤_}
 use native.Mathlib.Nat.{zero-mul, mul-one}
 use native.Mathlib.Omega.{arith}
 use borrow.Author.Tests.{ltb-false, le-ltb}
-use lib.Dec.{T, ltb}
-use lib.IntN.{ℤ, pos}
+use lib.Dec.{T}
+use lib.IntN.{ℤ}
 use lib.Ieee.{Float, nan, inf, fin, binary64, ofBits, up, down, neg, lt, le, eq}
 use lib.Ieee.Positive.{num, den}
 use Rattle.laws.proofs.Relative.{nonnegative}

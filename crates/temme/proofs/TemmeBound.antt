@@ -3,7 +3,6 @@ use mathlib.Core.Path.{_≡_, refl, sym, ap, _∙_, subst}
 use mathlib.Core.Bool.{Bool, true, false, cond}
 use Prim.Native.Nat.{ℕ, zero, suc, _+_, _*_, _^_, _≤_, _<_}
 use native.Mathlib.Nat.{mul-pos, le-refl, zero-lt-suc}
-use native.Mathlib.Numerals.{add-one}
 use native.Mathlib.Omega.{arith}
 use lib.IntN.{pos}
 use lib.Dec.{T, lit<, lit≤}
@@ -13,7 +12,7 @@ use Rattle.laws.specs.Iterate.{iterate}
 use Rattle.laws.proofs.Order.{finite-between}
 use Rattle.laws.proofs.Relative.{nonnegative, mul-round}
 use Rattle.laws.proofs.Bound.{Up, up-of, up-test, lo-test, up-of-le, up-weaken, lo-of-le, lo-nonnegative, mul-up-at, up-lo-le, every, every-at}
-use Rattle.laws.proofs.First.{First, first, passed, run-first}
+use Rattle.laws.proofs.First.{First, first, passed}
 use Rattle.machine.specs.Constants.{tolerance}
 use Rattle.complex.specs.declared.number.Complex.{Complex}
 use Rattle.temme.specs.declared.gammas.Gammas.{Gammas}
@@ -21,6 +20,7 @@ use Rattle.temme.specs.declared.sum.Ground.{Ground}
 use Rattle.temme.specs.declared.sum.Terms.{Terms}
 use Rattle.temme.specs.Sum.{one, nextMagnitude, nextTerms, isSummed, sumOf, EndsByTest}
 use Rattle.temme.specs.Seeds.{quarter, quarterSquare, groundOf, startOf, summedOf, seedsOf}
+use Rattle.temme.proofs.Counted.{after-count, run-counted}
 
 -- a product is at most the rounded product of the bounds
 pub mul-up-round : (f : Format) (x a y b : Float) → T (nonnegative a) → T (nonnegative b) → T (nonnegative (mul f a b)) → Up x (num a) (den a) → Up y (num b) (den b) → Up (mul f x y) (num (mul f a b)) (den (mul f a b))
@@ -111,37 +111,27 @@ quarter-square-up m p h =
 
 -- ---- the state after k turns
 module _ (g : Ground) (start : Terms) (none : start .terms ≡ 0) (whole : start .«term_magnitude» ≡ one) where
-  after : ℕ → Terms
-  after k = iterate k (nextTerms g) start
+  counts : (s : Terms) → nextTerms g s .terms ≡ s .terms + 1
+  unfolding nextTerms
+  counts s = refl
 
-  after-next : (k : ℕ) → after (suc k) ≡ nextTerms g (after k)
-  unfolding after iterate
-  after-next k = refl
-
-  after-terms : (k : ℕ) → after k .terms ≡ k
-  unfolding after iterate nextTerms
-  after-terms zero = none
-  after-terms (suc k) = ap (λ (n : ℕ). n + 1) (after-terms k) ∙ add-one k
-
-  after-magnitude : (k : ℕ) → after k .«term_magnitude» ≡ magnitudeAfter (g .«abs_z_sqr_over_4») k
-  unfolding after iterate nextTerms magnitudeAfter
+  after-magnitude : (k : ℕ) → iterate k (nextTerms g) start .«term_magnitude» ≡ magnitudeAfter (g .«abs_z_sqr_over_4») k
+  unfolding iterate nextTerms magnitudeAfter
   after-magnitude zero = whole
-  after-magnitude (suc k) = rw (after-terms k, after-magnitude k)
+  after-magnitude (suc k) = rw (after-count isSummed (nextTerms g) (λ s. s .terms) start none counts k, after-magnitude k)
 
-  stops : (k : ℕ) → isSummed (after k) ≡ sumEnds (g .«abs_z_sqr_over_4») k
+  stops : (k : ℕ) → isSummed (iterate k (nextTerms g) start) ≡ sumEnds (g .«abs_z_sqr_over_4») k
   unfolding isSummed sumEnds
   stops k = ap (λ (t : Float). le t tolerance) (after-magnitude k)
 
   pub sum-ends : Up (g .«abs_z_sqr_over_4») (num one) (den one) → EndsByTest (sumOf g start)
-  unfolding sumOf after iterate
+  unfolding sumOf
   sum-ends b =
       let e = ends (g .«abs_z_sqr_over_4») b in
       let n = e .0 in
-      let f : First true (λ k. isSummed (after k)) n = record { here = stops n ∙ e .3 .here; before = λ i h. stops i ∙ e .3 .before i h } in
       let h : n ≤ 999 = omega arith in
-      let r : sumOf g start ≡ after n = run-first (λ i s. isSummed s) (λ i s. nextTerms g s) after after-next n 999 h f in
-      let t : sumOf g start .terms ≡ n = ap (λ (s : Terms). s .terms) r ∙ after-terms n in
-      record { some = omega arith; few = omega arith; test = ap isSummed r ∙ f .here }
+      let r = run-counted isSummed (nextTerms g) (λ s. s .terms) start none counts 999 n h (record { here = stops n ∙ e .3 .here; before = λ i l. stops i ∙ e .3 .before i l }) in
+      record { some = subst (λ (k : ℕ). 1 ≤ k) (sym (r .1)) (e .1); few = subst (λ (k : ℕ). k ≤ 18) (sym (r .1)) (e .2); test = r .0 }
 
 -- ---- the seeds, for a modulus up to 2; below 2^-52 nothing is added
 bare : (m : Float) → T (le tolerance m) → T (le m two) → T (nonnegative m)
@@ -162,3 +152,7 @@ module _ (z : Complex) (m v w : Float) (h : T (le m (ofBits binary64 0x400000000
       go : (b : Bool) → le tolerance m ≡ b → seedsOf z m l v w .terms ≤ 18
       go true e = temme-ends _ _ _ _ (subst T (sym e) tt) .few
       go false e = rw e (lit≤ tt)
+
+pub nothing-added : (z l : Complex) (m v w : Float) → le tolerance m ≡ false → seedsOf z m l v w .terms ≡ 0
+unfolding seedsOf summedOf startOf
+nothing-added z l m v w e = rw e

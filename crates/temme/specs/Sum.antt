@@ -7,7 +7,6 @@ use lib.Ieee.{Float, binary64, ofBits, ofInt, le}
 use Rattle.laws.specs.Operators.{_⊕_, _⊖_, _⊗_, _⊘_}
 use Rattle.laws.specs.Run.{run}
 use Rattle.machine.specs.Constants.{tolerance}
-use Rattle.complex.specs.declared.number.Complex.{Complex}
 use Rattle.complex.specs.Arithmetic.{plusOf, minusOf, productOf, timesReal}
 use Rattle.temme.specs.declared.sum.Ground.{Ground}
 use Rattle.temme.specs.declared.sum.Terms.{Terms}

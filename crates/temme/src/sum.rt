@@ -52,6 +52,7 @@ fn next(g: Ground, s: Terms) -> Terms
     let neg_order_term = last_neg.times_real(recip_neg);
     let pos_order_term = last_pos.times_real(recip_pos);
     let taylor_factor = last_factor.product(square.times_real(recip_k));
+    let bracket = neg_order_term.minus(temme_coeff.times_real(k));
     Terms {
         temme_coeff,
         neg_order_term,
@@ -59,9 +60,7 @@ fn next(g: Ground, s: Terms) -> Terms
         taylor_factor,
         term_magnitude: s.term_magnitude * (g.abs_z_sqr_over_4 * recip_k),
         sum_k_nu: sum.plus(taylor_factor.product(temme_coeff)),
-        sum_k_nu_plus_1: sum_plus_1.plus(taylor_factor.product(neg_order_term.minus(temme_coeff.times_real(
-            k,
-        )))),
+        sum_k_nu_plus_1: sum_plus_1.plus(taylor_factor.product(bracket)),
         terms,
     }
 }

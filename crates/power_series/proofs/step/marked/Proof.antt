@@ -1,16 +1,21 @@
--- `power_series::step::marked` meets its contract: the exponent at or below the limit, and above it. Assumes nothing.
-use Rattle.machine.specs.Constants.{tolerance, approximationLimit}
-use Rattle.power_series.specs.Step.{markedIf, markedOf}
+-- `power_series::step::marked` meets its contract. Assumes nothing.
+use Rattle.power_series.specs.Step.{markedOf}
+use borrow.Author.Needs.{needs}
 use Rattle.power_series.proofs.step.marked.Statement.{statement}
 use Rattle.power_series.proofs.step.marked.Tie as tie
 
-returns : tie.Need-returns
-unfolding tolerance approximationLimit markedIf markedOf
-returns c = simp (c .if1 .taken)
+scale-requires : tie.Need-scale-requires
+scale-requires c κs = search needs
 
-returns-2 : tie.Need-returns-2
-unfolding tolerance approximationLimit markedIf markedOf
-returns-2 c = simp (c .if1 .left)
+longest-requires : tie.Need-longest-requires
+longest-requires c κs = search needs
+
+mark-requires : tie.Need-mark-requires
+mark-requires c κs = search needs
+
+returns : tie.Need-returns
+unfolding markedOf
+returns c = simp (c .mark .ensures, c .before .longest .ensures, c .before .before .scale .ensures)
 
 pub marked-spec : {M : Type 1} → statement M
-marked-spec = tie.close (tie.spec returns returns-2)
+marked-spec = tie.close (tie.spec scale-requires longest-requires mark-requires returns)

@@ -7,8 +7,8 @@ use Rattle.power_series.proofs.step.recurred.Tie as tie
 backward-requires : tie.Need-backward-requires
 backward-requires c κs = search needs
 
-add-t10 : tie.Need-add-t10
-add-t10 c = search needs
+add-t9 : tie.Need-add-t9
+add-t9 c = search needs
 
 under-mark-requires : tie.Need-under-mark-requires
 under-mark-requires c κs = search needs
@@ -24,5 +24,4 @@ unfolding recurredIf recurredOf
 returns-2 c = simp (c .if1 .left, c .before .before .backward .ensures)
 
 pub recurred-spec : {M : Type 1} → statement M
-recurred-spec =
-    tie.close (tie.spec backward-requires add-t10 under-mark-requires returns returns-2)
+recurred-spec = tie.close (tie.spec backward-requires add-t9 under-mark-requires returns returns-2)

@@ -5,12 +5,12 @@ use borrow.Author.Needs.{needs}
 use Rattle.power_series.proofs.step.zeroed.Statement.{statement}
 use Rattle.power_series.proofs.step.zeroed.Tie as tie
 
-add-t5 : tie.Need-add-t5
-add-t5 c = search needs
+add-t8 : tie.Need-add-t8
+add-t8 c = search needs
 
 returns : tie.Need-returns
 unfolding zeroedOf
 returns c = refl
 
 pub zeroed-spec : {M : Type 1} → statement M
-zeroed-spec = tie.close (tie.spec add-t5 returns)
+zeroed-spec = tie.close (tie.spec add-t8 returns)

@@ -1,14 +1,8 @@
 -- `temme::difference::difference` meets its contract. Assumes nothing.
-use mathlib.Core.Path.{ap}
-use lib.Ieee.{neg}
-use Rattle.temme.specs.declared.difference.Partial.{Partial}
 use Rattle.temme.specs.Difference.{differenceOf}
 use borrow.Author.Needs.{needs}
 use Rattle.temme.proofs.difference.difference.Statement.{statement}
 use Rattle.temme.proofs.difference.difference.Tie as tie
-use Rattle.temme.proofs.difference.difference.Reads as reads
-use Rattle.temme.proofs.difference.difference.Lts as lts
-use Rattle.temme.proofs.difference.series.Reads as series-reads
 
 series-requires : tie.Need-series-requires
 series-requires c κs = search needs

@@ -1,13 +1,9 @@
 -- `temme::difference::fraction_square` meets its contract. Assumes nothing.
-use mathlib.Core.Path.{sym, _∙_}
 use Rattle.machine.specs.Constants.{tolerance}
 use Rattle.temme.specs.Difference.{fractionSquare}
 use borrow.Author.Needs.{needs}
 use Rattle.temme.proofs.difference.fraction_square.Statement.{statement}
 use Rattle.temme.proofs.difference.fraction_square.Tie as tie
-use Rattle.temme.proofs.difference.fraction_square.Reads as reads
-use Rattle.temme.proofs.difference.fraction_square.Lts as lts
-use Rattle.complex.proofs.lost.magnitude.Reads as magnitude-reads
 
 magnitude-requires : tie.Need-magnitude-requires
 magnitude-requires c κs = search needs

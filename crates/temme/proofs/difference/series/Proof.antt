@@ -9,9 +9,6 @@ use Rattle.temme.specs.Difference.{startSeries, withTerm, seriesOf}
 use Rattle.temme.proofs.Counted.{left, left-next, left-stop, left-end}
 use Rattle.temme.proofs.difference.series.Statement.{statement}
 use Rattle.temme.proofs.difference.series.Tie as tie
-use Rattle.temme.proofs.difference.series.Reads as reads
-use Rattle.temme.proofs.difference.series.Lts as lts
-use Rattle.temme.proofs.difference.with_term.Reads as with-term-reads
 
 abbrev done : Partial → Bool
 done s = s .done

@@ -4,9 +4,6 @@ use Rattle.temme.specs.Difference.{differenceCoefficients, withTerm}
 use borrow.Author.Needs.{needs}
 use Rattle.temme.proofs.difference.with_term.Statement.{statement}
 use Rattle.temme.proofs.difference.with_term.Tie as tie
-use Rattle.temme.proofs.difference.with_term.Reads as reads
-use Rattle.temme.proofs.difference.with_term.Lts as lts
-use Rattle.complex.proofs.lost.magnitude.Reads as magnitude-reads
 
 mul-term : tie.Need-mul-term
 mul-term c = search needs

@@ -1,14 +1,10 @@
 -- `temme::gammas::gammas_at` meets its contract: at 0 the values are facts by computation. Assumes nothing.
-use mathlib.Core.Path.{sym, subst, _∙_}
+use mathlib.Core.Path.{sym, subst}
 use lib.Dec.{T}
 use Rattle.temme.proofs.GammasAtZero.{gammas-at-zero}
 use borrow.Author.Needs.{needs}
 use Rattle.temme.proofs.gammas.gammas_at.Statement.{statement}
 use Rattle.temme.proofs.gammas.gammas_at.Tie as tie
-use Rattle.temme.proofs.gammas.gammas_at.Reads as reads
-use Rattle.temme.proofs.gammas.gammas_at.Lts as lts
-use Rattle.temme.proofs.difference.difference.Reads as difference-reads
-use Rattle.temme.proofs.gammas.other.Reads as other-reads
 
 difference-requires : tie.Need-difference-requires
 difference-requires c κs = search needs

@@ -3,12 +3,6 @@ use Rattle.temme.specs.Gammas.{oneOverSinc, gammasOf}
 use borrow.Author.Needs.{needs}
 use Rattle.temme.proofs.gammas.other.Statement.{statement}
 use Rattle.temme.proofs.gammas.other.Tie as tie
-use Rattle.temme.proofs.gammas.other.Reads as reads
-use Rattle.temme.proofs.gammas.other.Lts as lts
-use Rattle.circular.proofs.sin_pi.sin_pi.Reads as sin-pi-reads
-use Rattle.exponential.proofs.exp.exp.Reads as exp-reads
-use Rattle.gamma_ln.proofs.gamma_ln.gamma_ln.Reads as gamma-ln-reads
-use Rattle.temme.proofs.gammas.quotient.Reads as quotient-reads
 
 sin-pi-requires : tie.Need-sin-pi-requires
 sin-pi-requires c κs = search needs

@@ -3,10 +3,6 @@ use Rattle.temme.specs.Gammas.{differenceQuotient}
 use borrow.Author.Needs.{needs}
 use Rattle.temme.proofs.gammas.quotient.Statement.{statement}
 use Rattle.temme.proofs.gammas.quotient.Tie as tie
-use Rattle.temme.proofs.gammas.quotient.Reads as reads
-use Rattle.temme.proofs.gammas.quotient.Lts as lts
-use Rattle.complex.proofs.lost.magnitude.Reads as magnitude-reads
-use Rattle.temme.proofs.difference.difference.Reads as difference-reads
 
 magnitude-requires : tie.Need-magnitude-requires
 magnitude-requires c κs = search needs

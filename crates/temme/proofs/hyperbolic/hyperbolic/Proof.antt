@@ -1,13 +1,9 @@
 -- `temme::hyperbolic::hyperbolic` meets its contract: at 0 the values are facts by computation. Assumes nothing.
-use mathlib.Core.Path.{sym, subst}
-use lib.Dec.{T}
+use mathlib.Core.Path.{sym}
 use Rattle.temme.proofs.Zeros.{AtZero, at-zero}
 use borrow.Author.Needs.{needs}
 use Rattle.temme.proofs.hyperbolic.hyperbolic.Statement.{statement}
 use Rattle.temme.proofs.hyperbolic.hyperbolic.Tie as tie
-use Rattle.temme.proofs.hyperbolic.hyperbolic.Reads as reads
-use Rattle.temme.proofs.hyperbolic.hyperbolic.Lts as lts
-use Rattle.complex.proofs.functions.exp_cosh_sinh.Reads as exp-cosh-sinh-reads
 
 returns : tie.Need-returns
 returns c =

@@ -3,10 +3,6 @@ use Rattle.temme.specs.Seeds.{quarterSquare, groundOf}
 use borrow.Author.Needs.{needs}
 use Rattle.temme.proofs.seeds.ground.Statement.{statement}
 use Rattle.temme.proofs.seeds.ground.Tie as tie
-use Rattle.temme.proofs.seeds.ground.Reads as reads
-use Rattle.temme.proofs.seeds.ground.Lts as lts
-use Rattle.complex.proofs.number.Complex.times_real.Reads as times-real-reads
-use Rattle.complex.proofs.power.square.Reads as square-reads
 
 square-requires : tie.Need-square-requires
 square-requires c κs = search needs

@@ -3,9 +3,6 @@ use Rattle.temme.specs.Seeds.{shincOf}
 use borrow.Author.Needs.{needs}
 use Rattle.temme.proofs.seeds.over_fraction.Statement.{statement}
 use Rattle.temme.proofs.seeds.over_fraction.Tie as tie
-use Rattle.temme.proofs.seeds.over_fraction.Reads as reads
-use Rattle.temme.proofs.seeds.over_fraction.Lts as lts
-use Rattle.complex.proofs.number.Complex.over_real.Reads as over-real-reads
 
 returns : tie.Need-returns
 unfolding shincOf

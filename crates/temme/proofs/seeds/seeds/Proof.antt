@@ -1,19 +1,10 @@
 -- `temme::seeds::seeds` meets its contract. Assumes nothing.
-use mathlib.Core.Path.{_≡_, refl, ap, _∙_}
-use Prim.Native.Nat.{ℕ}
+use mathlib.Core.Path.{ap}
 use Rattle.temme.specs.declared.sum.Terms.{Terms}
 use Rattle.temme.specs.Seeds.{startOf, seedsOf}
 use borrow.Author.Needs.{needs}
 use Rattle.temme.proofs.seeds.seeds.Statement.{statement}
 use Rattle.temme.proofs.seeds.seeds.Tie as tie
-use Rattle.temme.proofs.seeds.seeds.Reads as reads
-use Rattle.temme.proofs.seeds.seeds.Lts as lts
-use Rattle.complex.proofs.number.Complex.times_real.Reads as times-real-reads
-use Rattle.temme.proofs.gammas.gammas_at.Reads as gammas-at-reads
-use Rattle.temme.proofs.hyperbolic.hyperbolic.Reads as hyperbolic-reads
-use Rattle.temme.proofs.seeds.over_fraction.Reads as over-fraction-reads
-use Rattle.temme.proofs.seeds.start.Reads as start-reads
-use Rattle.temme.proofs.seeds.summed.Reads as summed-reads
 
 times-real-requires : tie.Need-times-real-requires
 times-real-requires c κs = search needs

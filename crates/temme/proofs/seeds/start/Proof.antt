@@ -3,12 +3,6 @@ use Rattle.temme.specs.Seeds.{startOf}
 use borrow.Author.Needs.{needs}
 use Rattle.temme.proofs.seeds.start.Statement.{statement}
 use Rattle.temme.proofs.seeds.start.Tie as tie
-use Rattle.temme.proofs.seeds.start.Reads as reads
-use Rattle.temme.proofs.seeds.start.Lts as lts
-use Rattle.complex.proofs.number.Complex.over_real.Reads as over-real-reads
-use Rattle.complex.proofs.number.Complex.plus.Reads as plus-reads
-use Rattle.complex.proofs.number.Complex.times_real.Reads as times-real-reads
-use Rattle.complex.proofs.number.real_over.Reads as real-over-reads
 
 times-real-requires : tie.Need-times-real-requires
 times-real-requires c κs = search needs

@@ -4,10 +4,6 @@ use Rattle.temme.specs.Seeds.{summedOf}
 use borrow.Author.Needs.{needs}
 use Rattle.temme.proofs.seeds.summed.Statement.{statement}
 use Rattle.temme.proofs.seeds.summed.Tie as tie
-use Rattle.temme.proofs.seeds.summed.Reads as reads
-use Rattle.temme.proofs.seeds.summed.Lts as lts
-use Rattle.temme.proofs.seeds.ground.Reads as ground-reads
-use Rattle.temme.proofs.sum.sum.Reads as sum-reads
 
 ground-requires : tie.Need-ground-requires
 ground-requires c κs = search needs

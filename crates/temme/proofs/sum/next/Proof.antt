@@ -3,12 +3,6 @@ use Rattle.temme.specs.Sum.{nextMagnitude, nextTerms}
 use borrow.Author.Needs.{needs}
 use Rattle.temme.proofs.sum.next.Statement.{statement}
 use Rattle.temme.proofs.sum.next.Tie as tie
-use Rattle.temme.proofs.sum.next.Reads as reads
-use Rattle.temme.proofs.sum.next.Lts as lts
-use Rattle.complex.proofs.number.Complex.minus.Reads as minus-reads
-use Rattle.complex.proofs.number.Complex.plus.Reads as plus-reads
-use Rattle.complex.proofs.number.Complex.product.Reads as product-reads
-use Rattle.complex.proofs.number.Complex.times_real.Reads as times-real-reads
 
 add-terms : tie.Need-add-terms
 add-terms c = search needs
@@ -40,17 +34,17 @@ times-real-requires-5 c κs = search needs
 product-requires : tie.Need-product-requires
 product-requires c κs = search needs
 
-product-requires-2 : tie.Need-product-requires-2
-product-requires-2 c κs = search needs
-
-plus-requires-3 : tie.Need-plus-requires-3
-plus-requires-3 c κs = search needs
-
 times-real-requires-6 : tie.Need-times-real-requires-6
 times-real-requires-6 c κs = search needs
 
 minus-requires : tie.Need-minus-requires
 minus-requires c κs = search needs
+
+product-requires-2 : tie.Need-product-requires-2
+product-requires-2 c κs = search needs
+
+plus-requires-3 : tie.Need-plus-requires-3
+plus-requires-3 c κs = search needs
 
 product-requires-3 : tie.Need-product-requires-3
 product-requires-3 c κs = search needs
@@ -65,10 +59,10 @@ returns c =
     simp (
       c .plus4 .ensures,
       c .before .product3 .ensures,
-      c .before .before .minus .ensures,
-      c .before .before .before .times-real6 .ensures,
-      c .before .before .before .before .plus3 .ensures,
-      c .before .before .before .before .before .product2 .ensures,
+      c .before .before .plus3 .ensures,
+      c .before .before .before .product2 .ensures,
+      c .before .before .before .before .before .before .minus .ensures,
+      c .before .before .before .before .before .before .before .times-real6 .ensures,
       d .product .ensures,
       d .before .times-real5 .ensures,
       d .before .before .times-real4 .ensures,
@@ -93,10 +87,10 @@ next-spec =
     times-real-requires-4
     times-real-requires-5
     product-requires
-    product-requires-2
-    plus-requires-3
     times-real-requires-6
     minus-requires
+    product-requires-2
+    plus-requires-3
     product-requires-3
     plus-requires-4
     returns)

@@ -9,9 +9,6 @@ use Rattle.temme.specs.Sum.{nextTerms, isSummed, sumOf}
 use Rattle.temme.proofs.Counted.{left, left-start, left-next, left-stop, left-end}
 use Rattle.temme.proofs.sum.sum.Statement.{statement}
 use Rattle.temme.proofs.sum.sum.Tie as tie
-use Rattle.temme.proofs.sum.sum.Reads as reads
-use Rattle.temme.proofs.sum.sum.Lts as lts
-use Rattle.temme.proofs.sum.next.Reads as next-reads
 
 abbrev count : Terms → ℕ
 count s = s .terms

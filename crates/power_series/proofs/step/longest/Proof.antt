@@ -1,0 +1,16 @@
+-- `power_series::step::longest` meets its contract: the sum is the longest, or not. Assumes nothing.
+use borrow.Author.Tests.{lt-ltb, le-ltb}
+use Rattle.power_series.specs.Step.{longestOf}
+use Rattle.power_series.proofs.step.longest.Statement.{statement}
+use Rattle.power_series.proofs.step.longest.Tie as tie
+
+returns : tie.Need-returns
+unfolding longestOf
+returns c = simp (lt-ltb _ _ (c .if1 .taken))
+
+returns-2 : tie.Need-returns-2
+unfolding longestOf
+returns-2 c = simp (le-ltb _ _ (c .if1 .left))
+
+pub longest-spec : {M : Type 1} → statement M
+longest-spec = tie.close (tie.spec returns returns-2)

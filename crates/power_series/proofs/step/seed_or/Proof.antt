@@ -1,0 +1,15 @@
+-- `power_series::step::seed_or` meets its contract. Assumes nothing.
+use Rattle.power_series.specs.Step.{seedOr}
+use Rattle.power_series.proofs.step.seed_or.Statement.{statement}
+use Rattle.power_series.proofs.step.seed_or.Tie as tie
+
+returns : tie.Need-returns
+unfolding seedOr
+returns c = simp (c .if1 .taken)
+
+returns-2 : tie.Need-returns-2
+unfolding seedOr
+returns-2 c = simp (c .if1 .left)
+
+pub seed-or-spec : {M : Type 1} → statement M
+seed-or-spec = tie.close (tie.spec returns returns-2)

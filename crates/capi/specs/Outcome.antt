@@ -1,4 +1,7 @@
 -- An outcome of log-gamma as the record that crosses the C boundary. Definitions only.
+use Prim.Native.Nat.{ℕ}
+use mathlib.Core.Bool.{Bool, not}
+use lib.Dec.{eqb}
 use Rattle.machine.specs.Constants.{notANumber}
 use Rattle.refusal.specs.Number.{numberOf}
 use Rattle.gamma_ln.specs.declared.log_gamma.LogGamma as outcomes
@@ -8,3 +11,7 @@ use Rattle.capi.specs.declared.LogGamma.{LogGamma}
 abbrev pub outcomeOf : outcomes.LogGamma → LogGamma
 outcomeOf (Value v) = record { value = v; number = 0 }
 outcomeOf (Refused r) = record { value = notANumber; number = numberOf r }
+
+-- scaled: 0 no, any other yes
+abbrev pub isScaled : ℕ → Bool
+isScaled s = not (eqb s 0)

@@ -14,7 +14,10 @@ ghost use Rattle.circular.specs.CosPi.{cosPiOf};
 ghost use Rattle.angle.specs.Angle.{angleOf};
 ghost use Rattle.rounding.specs.Round.{roundOf};
 ghost use Rattle.gamma_ln.specs.LogGamma.{logGammaOf};
-ghost use Rattle.capi.specs.Outcome.{outcomeOf};
+ghost use Rattle.capi.specs.Outcome.{outcomeOf, isScaled};
+ghost use Rattle.bessel.specs.I.{iOutcome};
+ghost use lib.ListN.{length};
+use bessel::answer::Answer;
 use gamma_ln::log_gamma::log_gamma;
 use machine::constants::not_a_number;
 
@@ -124,4 +127,12 @@ pub extern "C" fn lichenoar_log_gamma(x: f64) -> LogGamma
             number: refusal.number(),
         },
     }
+}
+
+// n orders of I into the 2n lent cells, re before im. scaled: 0 no, any other yes. Refused or not, every cell is written.
+#[no_mangle]
+pub extern "C" fn lichenoar_i(scaled: u8, v: f64, re: f64, im: f64, out: &mut [f64]) -> Answer
+    ensures { λ r. ⌜ (r ≡ iOutcome (isScaled scaled) v re im (length (now (out .entry))) .answer) × (now (out .exit) ≡ iOutcome (isScaled scaled) v re im (length (now (out .entry))) .cells) ⌝ }
+{
+    bessel::i::i(scaled != 0, v, re, im, out)
 }

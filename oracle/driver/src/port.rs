@@ -11,6 +11,7 @@ struct LogGamma {
 }
 
 #[repr(C)]
+#[derive(Default)]
 struct Answer {
     number: u32,
     zeros: i32,
@@ -22,10 +23,12 @@ struct Answer {
 extern "C" {
     #[cfg(feature = "log_gamma")]
     fn lichenoar_log_gamma(x: f64) -> LogGamma;
+    // A record of more than 16 bytes comes back through a pointer that the caller passes first: so x86-64's calling convention has it, and so the archive
+    // for another processor has it too, since it is made of the same module.
     #[cfg(feature = "i")]
-    fn lichenoar_i(scaled: u8, v: f64, re: f64, im: f64, out: *mut f64, length: usize) -> Answer;
+    fn lichenoar_i(answer: *mut Answer, scaled: u8, v: f64, re: f64, im: f64, out: *mut f64, length: usize) -> *mut Answer;
     #[cfg(feature = "k")]
-    fn lichenoar_k(scaled: u8, v: f64, re: f64, im: f64, out: *mut f64, length: usize) -> Answer;
+    fn lichenoar_k(answer: *mut Answer, scaled: u8, v: f64, re: f64, im: f64, out: *mut f64, length: usize) -> *mut Answer;
 }
 
 pub fn log_gamma(x: f64) -> Option<(u32, u64)> {
@@ -40,7 +43,7 @@ pub fn log_gamma(x: f64) -> Option<(u32, u64)> {
 
 /// The call, on a buffer filled with the given rubbish and guarded by a cell on each side.
 pub fn outcome(kind: Kind, c: &Call, rubbish: u64) -> Option<Result<Outcome, String>> {
-    let function: Option<unsafe extern "C" fn(u8, f64, f64, f64, *mut f64, usize) -> Answer> = match kind {
+    let function: Option<unsafe extern "C" fn(*mut Answer, u8, f64, f64, f64, *mut f64, usize) -> *mut Answer> = match kind {
         #[cfg(feature = "k")]
         Kind::K => Some(lichenoar_k),
         #[cfg(feature = "i")]
@@ -53,7 +56,8 @@ pub fn outcome(kind: Kind, c: &Call, rubbish: u64) -> Option<Result<Outcome, Str
     let guard = 0x0123_4567_89AB_CDEF;
     cells[0] = f64::from_bits(guard);
     cells[c.length + 1] = f64::from_bits(guard);
-    let a = unsafe { function(c.scaled as u8, c.v, c.re, c.im, cells.as_mut_ptr().add(1), c.length) };
+    let mut a = Answer::default();
+    unsafe { function(&mut a, c.scaled as u8, c.v, c.re, c.im, cells.as_mut_ptr().add(1), c.length) };
     if cells[0].to_bits() != guard || cells[c.length + 1].to_bits() != guard {
         return Some(Err("a cell outside the buffer was written".to_string()));
     }

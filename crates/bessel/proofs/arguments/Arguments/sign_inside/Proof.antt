@@ -1,0 +1,12 @@
+-- `bessel::arguments::Arguments::sign_inside` meets its contract. Assumes nothing.
+use mathlib.Core.Path.{refl}
+use Rattle.bessel.specs.Arguments.{signInside}
+use Rattle.bessel.proofs.arguments.Arguments.sign_inside.Statement.{statement}
+use Rattle.bessel.proofs.arguments.Arguments.sign_inside.Tie as tie
+
+returns : tie.Need-returns
+unfolding signInside
+returns c = refl
+
+pub sign-inside-spec : {M : Type 1} → statement M
+sign-inside-spec = tie.close (tie.spec returns)

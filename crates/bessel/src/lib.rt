@@ -1,0 +1,8 @@
+// The entry points: which calls are admitted, every cell of the lent buffer, and the answer record.
+// docs/SCOPE.md, Domain and refusals, has the rules; the steps behind the checks are the kernels' crates.
+pub mod answer;
+pub mod arguments;
+pub mod cells;
+pub mod classify;
+pub mod i;
+pub mod outcome;

@@ -3,3 +3,6 @@ pub mod CellFacts
 pub mod LengthFacts
 pub mod ClassifyFacts
 pub mod SeriesFacts
+pub mod Numbers
+pub mod SeriesOutcome
+pub mod Rows

@@ -199,3 +199,42 @@ pub fn call_i(d: &mut Draw) -> Call {
     };
     Call { scaled, v, re, im, length }
 }
+
+/// The calls of I that every run begins with: every length of a buffer from 0 to 1,030, the edge of refusal 5 by single patterns, calls that stop with unfinished cells
+/// or with holes, and the smallest arguments.
+pub fn i_edges() -> Vec<Call> {
+    let bits = f64::from_bits;
+    let mut out = Vec::new();
+    let mut both = |v: f64, re: f64, im: f64, length: usize| {
+        for scaled in [false, true] {
+            out.push(Call { scaled, v, re, im, length });
+        }
+    };
+    for length in 0..=1030 {
+        both(0.5, 1.25, -0.75, length);
+        both(3.0, 0.0, bits(0x4022_5472_F9AB_882D), length);
+        both(340.25, 20.0, 15.0, length);
+        both(0.0, 1e-310, 0.0, length);
+    }
+    for (v, n, edge) in [(0.0, 1, 2.0), (1.0, 1, bits(0x4006_A09E_667F_3BCC)), (0.0, 512, 2.0 * 512f64.sqrt()), (1000.0, 512, 2.0 * 1512f64.sqrt()), (0.25, 3, 2.0 * 3.25f64.sqrt())] {
+        for step in -40i64..=40 {
+            let m = bits((edge.to_bits() as i64 + step) as u64);
+            both(v, m, 0.0, 2 * n);
+            both(v, 0.0, m, 2 * n);
+            both(v, 0.0, -m, 2 * n);
+            both(v, m * 0.5f64.sqrt(), m * 0.5f64.sqrt(), 2 * n);
+        }
+    }
+    both(bits(0x4072_9C5E_15A0_1B31), bits(0x403E_2A75_B881_2B83), bits(0xC035_EF2D_038D_1EF8), 100);
+    both(bits(0x4075_1000_0000_0000), bits(0x4031_73BE_00B3_864E), bits(0x403C_A6A1_6331_9358), 20);
+    for place in 0..1075u64 {
+        let x = if place < 52 { bits(1 << place) } else { bits((place - 51) << 52) };
+        both(0.0, x, 0.0, 6);
+        both(1.5, 0.0, x, 6);
+        both(0.0, x, -x, 4);
+    }
+    both(1.0, 0.0, 0.0, 4);
+    both(0.0, -0.0, -0.0, 4);
+    both(-0.0, 0.0, 0.0, 2);
+    out
+}

@@ -162,6 +162,9 @@ fn main() {
         }
         "i" | "k" => {
             let kind = if name == "i" { Kind::I } else { Kind::K };
+            for c in if kind == Kind::I { draw::i_edges() } else { Vec::new() } {
+                bessel(kind, &c, 0x7FF0_0000_0000_0001, name == entry, &mut t);
+            }
             for _ in 0..count {
                 let c = if kind == Kind::I { draw::call_i(&mut d) } else { draw::call_k(&mut d) };
                 let rubbish = d.bits();

@@ -1,5 +1,6 @@
-//! Times log-gamma of libcapi.a against the Rust text over std's functions, on the same arguments, in one process, interleaved, best of many rounds.
-//! Throughput: independent calls. Latency: each argument waits for the value before it.
+//! Times log-gamma and I of libcapi.a against the Rust text over std's functions, on the same arguments, in one process, interleaved, best of many rounds.
+//! Log-gamma, throughput: independent calls; latency: each argument waits for the value before it. I: the whole entry point, every check and the record included, against
+//! the text's power series alone, on workloads d (v=0, n=1, |z| ≤ 2) and D (the same, n=10).
 
 use std::hint::black_box;
 use std::time::Instant;
@@ -10,8 +11,79 @@ struct LogGamma {
     number: u32,
 }
 
+#[repr(C)]
+#[derive(Default)]
+struct Answer {
+    number: u32,
+    zeros: i32,
+    longest_sum: u32,
+    rungs: u32,
+    backward: u32,
+}
+
 extern "C" {
     fn lichenoar_log_gamma(x: f64) -> LogGamma;
+    // its record comes back through the first pointer, as in the oracle's port.rs
+    fn lichenoar_i(answer: *mut Answer, scaled: u8, v: f64, re: f64, im: f64, out: *mut f64, length: usize) -> *mut Answer;
+}
+
+/// splitmix64, seeded by the workload's letter; points of the right half disc by rejection, so that no function of a library but sqrt is asked.
+struct Workload(u64);
+
+impl Workload {
+    fn new(letter: char) -> Self {
+        Workload(0x6B65_7276_0000_0000 + letter as u64)
+    }
+    fn unit(&mut self) -> f64 {
+        self.0 = self.0.wrapping_add(0x9E37_79B9_7F4A_7C15);
+        let mut x = self.0;
+        x = (x ^ (x >> 30)).wrapping_mul(0xBF58_476D_1CE4_E5B9);
+        x = (x ^ (x >> 27)).wrapping_mul(0x94D0_49BB_1331_11EB);
+        ((x ^ (x >> 31)) >> 11) as f64 * 2f64.powi(-53)
+    }
+    fn point(&mut self, radius: f64) -> (f64, f64) {
+        loop {
+            let (a, b) = (self.unit(), 2.0 * self.unit() - 1.0);
+            let q = a * a + b * b;
+            if q > 0.0 && q <= 1.0 {
+                let scale = radius / q.sqrt();
+                return (a * scale, b * scale);
+            }
+        }
+    }
+}
+
+fn series(letter: char, n: usize, rounds: usize) {
+    let mut w = Workload::new(letter);
+    let points: Vec<(f64, f64)> = (0..ARGUMENTS)
+        .map(|_| {
+            let r = 2.0 * w.unit();
+            w.point(r)
+        })
+        .collect();
+    let mut cells = vec![0.0; 2 * n];
+    let mut entries = vec![native_complex(0.0, 0.0); n];
+    let mut best = [f64::INFINITY; 2];
+    for _ in 0..rounds {
+        let begun = Instant::now();
+        for (re, im) in &points {
+            let mut answer = Answer::default();
+            unsafe { lichenoar_i(&mut answer, 0, 0.0, *re, *im, cells.as_mut_ptr(), 2 * n) };
+            black_box((&cells, &answer));
+        }
+        best[0] = best[0].min(begun.elapsed().as_nanos() as f64 / ARGUMENTS as f64);
+        let begun = Instant::now();
+        for (re, im) in &points {
+            let count = native::amos::i_power_series(native_complex(*re, *im), 0.0, native::Scaling::Unscaled, &mut entries);
+            black_box((&entries, count));
+        }
+        best[1] = best[1].min(begun.elapsed().as_nanos() as f64 / ARGUMENTS as f64);
+    }
+    println!("| {letter} | {:.1} | {:.1} | {:.2} |", best[0], best[1], best[0] / best[1]);
+}
+
+fn native_complex(re: f64, im: f64) -> num_std::Complex<f64> {
+    num_std::Complex::new(re, im)
 }
 
 const ARGUMENTS: usize = 2048;
@@ -68,4 +140,7 @@ fn main() {
         }
         println!("| {name} | {:.2} | {:.2} | {:.2} | {:.2} | {:.2} | {:.2} |", best[0], best[1], best[0] / best[1], best[2], best[3], best[2] / best[3]);
     }
+    println!("\n| workload | ns a call | text ns | ratio |\n|---|---|---|---|");
+    series('d', 1, rounds);
+    series('D', 10, rounds);
 }

@@ -1,0 +1,45 @@
+-- Calls whose outcome is computed from the definitions. Assumes nothing.
+use mathlib.Core.Path.{_≡_, refl, ap, _∙_}
+use mathlib.Core.Bool.{Bool, true, false}
+use mathlib.Core.List.{[], _∷_}
+use Prim.Native.Nat.{ℕ}
+use lib.IntN.{pos}
+use lib.Ieee.{Float, nan, binary64, ofBits, ofInt, round, size, neg, add, mul, eq, le, lt}
+use Rattle.machine.specs.Constants.{underflowLimit}
+use Rattle.refusal.specs.declared.refusal.Refusal.the-variants.{Length, NotFinite, Domain, Series}
+use Rattle.roots.specs.Hypot.{hypotOf}
+use Rattle.complex.specs.Functions.{modulusOf}
+use Rattle.complex.specs.Lost.{magnitudeOf}
+use Rattle.power_series.specs.Orders.{orderAt, orderPlusOne, beyondSeries}
+use Rattle.power_series.specs.Tiny.{lowestOf, zerosOf, tinyOf}
+use Rattle.power_series.specs.Series.{powerSeriesIf, powerSeriesOf}
+use Rattle.bessel.specs.declared.classify.Kind.{Kind}
+use Rattle.bessel.specs.declared.classify.Kind.the-variants.{K, I}
+use Rattle.bessel.specs.declared.classify.Verdict.the-variants.{Refused}
+use Rattle.bessel.specs.Arguments.{normalisedOf, argumentsOf, lengthInside, areFinite, orderInside, signInside, sizeInside, isZero}
+use Rattle.bessel.specs.Classify.{zeroRefused, seriesRefused, checksOf, firstOf, verdictOf, classifyOf}
+use Rattle.bessel.specs.Answer.{answeredOf}
+use Rattle.bessel.specs.Cells.{allFinite}
+use Rattle.bessel.specs.Outcome.{refusedOutcome, judgedIf, judgedOf}
+use Rattle.bessel.specs.I.{visitAnswer, visitedOutcome, seriesOutcome, iOutcomeOf, iOutcome}
+
+abbrev nought : Float
+nought = ofBits binary64 0
+
+abbrev one : Float
+one = ofBits binary64 0x3FF0000000000000
+
+-- ---- I at z = 0, v = 1, n = 2: zeros, and none is counted
+at-zero : (scaled : Bool) → iOutcome scaled one nought nought 4 ≡ record { answer = answeredOf (pos 0) 0 0 0; cells = nought ∷ nought ∷ nought ∷ nought ∷ [] }
+unfolding iOutcome iOutcomeOf seriesOutcome visitedOutcome visitAnswer judgedOf judgedIf allFinite classifyOf verdictOf firstOf checksOf zeroRefused seriesRefused argumentsOf normalisedOf lengthInside areFinite orderInside signInside sizeInside beyondSeries orderPlusOne orderAt powerSeriesOf powerSeriesIf tinyOf lowestOf zerosOf modulusOf hypotOf magnitudeOf underflowLimit ofBits ofInt round size neg add mul eq le lt
+at-zero scaled = refl
+
+-- ---- I at z = 2^-1040, v = 0, n = 3: 1, 0, 0, and two are counted
+near-zero : (scaled : Bool) → iOutcome scaled nought (ofBits binary64 0x0000000400000000) nought 6 ≡ record { answer = answeredOf (pos 2) 0 0 0; cells = one ∷ nought ∷ nought ∷ nought ∷ nought ∷ nought ∷ [] }
+unfolding iOutcome iOutcomeOf seriesOutcome visitedOutcome visitAnswer judgedOf judgedIf allFinite classifyOf verdictOf firstOf checksOf zeroRefused seriesRefused argumentsOf normalisedOf lengthInside areFinite orderInside signInside sizeInside beyondSeries orderPlusOne orderAt powerSeriesOf powerSeriesIf tinyOf lowestOf zerosOf modulusOf hypotOf magnitudeOf underflowLimit ofBits ofInt round size neg add mul eq le lt
+near-zero scaled = refl
+
+-- ---- I at z = 4, v = 0, n = 1: refusal 5
+beyond : (scaled : Bool) → iOutcome scaled nought (ofBits binary64 0x4010000000000000) nought 2 ≡ refusedOutcome Series 2
+unfolding iOutcome iOutcomeOf classifyOf verdictOf firstOf checksOf zeroRefused seriesRefused argumentsOf normalisedOf lengthInside areFinite orderInside signInside sizeInside beyondSeries orderPlusOne orderAt modulusOf hypotOf magnitudeOf ofBits ofInt round size neg add mul eq le lt
+beyond scaled = refl

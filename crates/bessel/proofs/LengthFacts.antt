@@ -1,10 +1,9 @@
 -- A buffer's length that is let in: even, from 2 to 1,024. Assumes nothing.
-use mathlib.Core.Path.{_≡_, refl}
-use mathlib.Core.Bool.{Bool, true, false, _&&_}
+use mathlib.Core.Path.{_≡_, sym, subst}
+use mathlib.Core.Bool.{true, _&&_}
 use Prim.Native.Nat.{ℕ, _%_, _≤_, _<_}
-use native.Mathlib.Omega.{arith}
-use lib.Dec.{ltb, leb, eqb}
-use borrow.Author.Tests.{ltb-true, leb-true, eqb-true}
+use lib.Dec.{T, ltb, leb, eqb, ltb→lt, leb→le, eqb→eq}
+use lib.Ieee.Fits.{and-l, and-r}
 use Rattle.bessel.specs.Arguments.{lengthInside}
 
 pub record Lent (length : ℕ) : Type 0 where
@@ -12,13 +11,12 @@ pub record Lent (length : ℕ) : Type 0 where
   pub most : length ≤ 1024
   pub even : length % 2 ≡ 0
 
-both : (a b : Bool) → (a && b) ≡ true → (a ≡ true) × (b ≡ true)
-both true b e = (refl, e)
-both false b e = absurd (let z : _≡_ {A = ℕ} 0 1 = cc in omega arith)
-
 pub lent : (length : ℕ) → lengthInside length ≡ true → Lent length
 unfolding lengthInside
 lent length e =
-    let p = both (ltb 0 length) (leb length 1024 && eqb (length % 2) 0) e in
-    let q = both (leb length 1024) (eqb (length % 2) 0) (p .1) in
-    record { some = ltb-true 0 length (p .0); most = leb-true length 1024 (q .0); even = eqb-true (length % 2) 0 (q .1) }
+    let some = ltb 0 length in
+    let most = leb length 1024 in
+    let even = eqb (length % 2) 0 in
+    let t : T (some && (most && even)) = subst T (sym e) tt in
+    let u : T (most && even) = and-r some (most && even) t in
+    record { some = ltb→lt 0 length (and-l some (most && even) t); most = leb→le length 1024 (and-l most even u); even = eqb→eq (length % 2) 0 (and-r most even u) }

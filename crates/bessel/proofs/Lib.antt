@@ -5,4 +5,6 @@ pub mod ClassifyFacts
 pub mod SeriesFacts
 pub mod Numbers
 pub mod SeriesOutcome
+pub mod ModulusBound
+pub mod SumsEnd
 pub mod Rows

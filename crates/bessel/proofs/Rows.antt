@@ -30,16 +30,39 @@ abbrev one : Float
 one = ofBits binary64 0x3FF0000000000000
 
 -- ---- I at z = 0, v = 1, n = 2: zeros, and none is counted
-at-zero : (scaled : Bool) → iOutcome scaled one nought nought 4 ≡ record { answer = answeredOf (pos 0) 0 0 0; cells = nought ∷ nought ∷ nought ∷ nought ∷ [] }
+pub at-zero : (scaled : Bool) → iOutcome scaled one nought nought 4 ≡ record { answer = answeredOf (pos 0) 0 0 0; cells = nought ∷ nought ∷ nought ∷ nought ∷ [] }
 unfolding iOutcome iOutcomeOf seriesOutcome visitedOutcome visitAnswer judgedOf judgedIf allFinite classifyOf verdictOf firstOf checksOf zeroRefused seriesRefused argumentsOf normalisedOf lengthInside areFinite orderInside signInside sizeInside beyondSeries orderPlusOne orderAt powerSeriesOf powerSeriesIf tinyOf lowestOf zerosOf modulusOf hypotOf magnitudeOf underflowLimit ofBits ofInt round size neg add mul eq le lt
 at-zero scaled = refl
 
 -- ---- I at z = 2^-1040, v = 0, n = 3: 1, 0, 0, and two are counted
-near-zero : (scaled : Bool) → iOutcome scaled nought (ofBits binary64 0x0000000400000000) nought 6 ≡ record { answer = answeredOf (pos 2) 0 0 0; cells = one ∷ nought ∷ nought ∷ nought ∷ nought ∷ nought ∷ [] }
+pub near-zero : (scaled : Bool) → iOutcome scaled nought (ofBits binary64 0x0000000400000000) nought 6 ≡ record { answer = answeredOf (pos 2) 0 0 0; cells = one ∷ nought ∷ nought ∷ nought ∷ nought ∷ nought ∷ [] }
 unfolding iOutcome iOutcomeOf seriesOutcome visitedOutcome visitAnswer judgedOf judgedIf allFinite classifyOf verdictOf firstOf checksOf zeroRefused seriesRefused argumentsOf normalisedOf lengthInside areFinite orderInside signInside sizeInside beyondSeries orderPlusOne orderAt powerSeriesOf powerSeriesIf tinyOf lowestOf zerosOf modulusOf hypotOf magnitudeOf underflowLimit ofBits ofInt round size neg add mul eq le lt
 near-zero scaled = refl
 
 -- ---- I at z = 4, v = 0, n = 1: refusal 5
-beyond : (scaled : Bool) → iOutcome scaled nought (ofBits binary64 0x4010000000000000) nought 2 ≡ refusedOutcome Series 2
+pub beyond : (scaled : Bool) → iOutcome scaled nought (ofBits binary64 0x4010000000000000) nought 2 ≡ refusedOutcome Series 2
 unfolding iOutcome iOutcomeOf classifyOf verdictOf firstOf checksOf zeroRefused seriesRefused argumentsOf normalisedOf lengthInside areFinite orderInside signInside sizeInside beyondSeries orderPlusOne orderAt modulusOf hypotOf magnitudeOf ofBits ofInt round size neg add mul eq le lt
 beyond scaled = refl
+
+-- ---- refusal 1, of any kind and at any arguments: an empty buffer, and one of 1,026 cells
+pub empty : (kind : Kind) (v re im : Float) → classifyOf kind v re im 0 ≡ Refused Length
+unfolding classifyOf verdictOf firstOf checksOf lengthInside
+empty kind v re im = refl
+
+pub too-long : (kind : Kind) (v re im : Float) → classifyOf kind v re im 1026 ≡ Refused Length
+unfolding classifyOf verdictOf firstOf checksOf lengthInside
+too-long kind v re im = refl
+
+-- ---- refusal 2 before 4: K of 0 at an order that is not a number
+pub not-a-number-first : (length : ℕ) → lengthInside length ≡ true → classifyOf K nan nought nought length ≡ Refused NotFinite
+unfolding classifyOf verdictOf firstOf checksOf areFinite argumentsOf normalisedOf eq
+not-a-number-first length e = rw e
+
+-- ---- refusal 3: a real part of -2^-1074, at any finite order and imaginary part
+below-by : (kind : Kind) (v im : Float) (length : ℕ) (o : Bool) → let a = argumentsOf v (ofBits binary64 0x8000000000000001) im in lengthInside length ≡ true → areFinite a ≡ true → orderInside a ≡ o → classifyOf kind v (ofBits binary64 0x8000000000000001) im length ≡ Refused Domain
+unfolding classifyOf verdictOf firstOf checksOf signInside argumentsOf normalisedOf ofBits eq le lt
+below-by kind v im length true l f o = simp (l, f, o)
+below-by kind v im length false l f o = simp (l, f, o)
+
+pub below-zero : (kind : Kind) (v im : Float) (length : ℕ) → lengthInside length ≡ true → areFinite (argumentsOf v (ofBits binary64 0x8000000000000001) im) ≡ true → classifyOf kind v (ofBits binary64 0x8000000000000001) im length ≡ Refused Domain
+below-zero kind v im length l f = below-by kind v im length (orderInside (argumentsOf v (ofBits binary64 0x8000000000000001) im)) l f refl

@@ -9,3 +9,5 @@ pub mod WalkFacts
 pub mod VisitSums
 pub mod Constants
 pub mod VisitFacts
+pub mod UnitFacts
+pub mod AloneFacts

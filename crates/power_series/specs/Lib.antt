@@ -6,4 +6,5 @@ pub mod Ground
 pub mod Step
 pub mod Visit
 pub mod Tiny
+pub mod Plain
 pub mod Series

@@ -20,7 +20,7 @@ pub struct Ground {
 // the root of the underflow limit: the square of a smaller argument underflows
 const SQUARE_LIMIT: f64 = 4.7170688552396617e-153;
 
-fn turn(turned: bool, w: Complex) -> Complex
+pub fn turn(turned: bool, w: Complex) -> Complex
     ensures { λ r. ⌜ r ≡ turnedOf turned w ⌝ }
 {
     if turned {
@@ -29,7 +29,7 @@ fn turn(turned: bool, w: Complex) -> Complex
     w
 }
 
-fn square_of(modulus: f64, half: Complex) -> Complex
+pub fn square_of(modulus: f64, half: Complex) -> Complex
     ensures { λ r. ⌜ r ≡ squareOf modulus half ⌝ }
 {
     if modulus > SQUARE_LIMIT {

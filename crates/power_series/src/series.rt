@@ -1,15 +1,31 @@
 // The power series over n orders: the small arguments apart, the downward visit otherwise. From src/amos/power_series.rs, i_power_series (ZSERI).
 // Promised: powerSeriesOf of specs/Series.antt, record and cells. It asks what refusals 1 and 5 leave: an even number of cells, 2 to 1024 of them.
 ghost use mathlib.Core.Path.{_≡_};
+ghost use mathlib.Core.Bool.{true, false};
 ghost use Prim.Native.Nat.{_/_, _%_, _≤_, _<_};
+ghost use lib.Ieee.{binary64, ofBits, eq};
 ghost use lib.ListN.{length};
 ghost use Rattle.power_series.specs.Series.{powerSeriesOf};
+use crate::alone::alone;
 use crate::ground::prepare;
 use crate::tiny::tiny;
 use crate::visit::Visit;
 use crate::visit::downward;
 use complex::number::Complex;
 use machine::constants::Machine;
+
+// order 0 alone, unscaled
+fn is_alone(scaled: bool, order: f64, cells: usize) -> bool
+    ensures { λ r. ⌜ (r ≡ true → (scaled ≡ false) × (eq order (ofBits binary64 0) ≡ true) × (cells ≡ 2)) ⌝ }
+{
+    if scaled {
+        return false;
+    }
+    if cells == 2 {
+        return order == 0.0;
+    }
+    false
+}
 
 pub fn power_series(
     scaled: bool,
@@ -24,6 +40,9 @@ pub fn power_series(
 {
     if modulus < Machine::UNDERFLOW_LIMIT {
         return tiny(order, modulus, out);
+    }
+    if is_alone(scaled, order, out.len()) {
+        return alone(turned, order, z, modulus, out);
     }
     downward(prepare(scaled, turned, order, z, modulus), out)
 }

@@ -1,6 +1,12 @@
--- `power_series::series::power_series` meets its contract: below the underflow limit, and from there on. Assumes nothing.
-use mathlib.Core.Path.{_∙_}
+-- `power_series::series::power_series` meets its contract: below the underflow limit, order 0 alone, and the visit. Assumes nothing.
+use mathlib.Core.Path.{_≡_, sym, ap, _∙_}
+use mathlib.Core.Bool.{Bool, false}
+use Prim.Native.Nat.{ℕ, _/_}
+use native.Mathlib.Omega.{arith}
+use lib.ListN.{length}
 use Rattle.machine.specs.Constants.{underflowLimit}
+use Rattle.power_series.specs.Ground.{groundOf}
+use Rattle.power_series.specs.Visit.{visitOf}
 use Rattle.power_series.specs.Series.{powerSeriesIf, powerSeriesOf}
 use borrow.Author.Needs.{needs}
 use Rattle.power_series.proofs.series.power_series.Statement.{statement}
@@ -18,11 +24,13 @@ returns c =
     let d = c .before .before in
     rw (d .before .before .if1 .taken) (d .tiny .ensures)
 
-prepare-requires : tie.Need-prepare-requires
-prepare-requires c κs = search needs
+is-alone-requires : tie.Need-is-alone-requires
+is-alone-requires c κs = search needs
 
-downward-requires : tie.Need-downward-requires
-downward-requires c κs = search needs
+alone-requires : tie.Need-alone-requires
+alone-requires c κs =
+    let h = c .before .before .is-alone .ensures (c .before .if2 .taken) in
+    (h .1, h .2)
 
 same-length-2 : tie.Need-same-length-2
 same-length-2 c = search needs
@@ -31,7 +39,30 @@ returns-2 : tie.Need-returns-2
 unfolding underflowLimit powerSeriesIf powerSeriesOf
 returns-2 c =
     let d = c .before .before in
-    rw (d .before .before .before .if1 .left, ← d .before .before .prepare .ensures) (d .downward .ensures)
+    let i = d .before .before .before in
+    let s = i .before .before .before in
+    let h = i .is-alone .ensures (d .before .before .if2 .taken) in
+    let n : 1 ≡ length (s .args .out .now) / 2 = omega (arith, h .2) in
+    rw (i .before .if1 .left) (
+      d .alone .ensures .0 ∙ ap (λ (k : ℕ). visitOf (groundOf false (s .args .turned) (s .args .order) (s .args .z) (s .args .modulus)) k .visit) n ∙ ap (λ (b : Bool). visitOf (groundOf b (s .args .turned) (s .args .order) (s .args .z) (s .args .modulus)) (length (s .args .out .now) / 2) .visit) (sym (h .0)),
+      d .alone .ensures .1 ∙ ap (λ (k : ℕ). visitOf (groundOf false (s .args .turned) (s .args .order) (s .args .z) (s .args .modulus)) k .cells) n ∙ ap (λ (b : Bool). visitOf (groundOf b (s .args .turned) (s .args .order) (s .args .z) (s .args .modulus)) (length (s .args .out .now) / 2) .cells) (sym (h .0)),
+    )
+
+prepare-requires : tie.Need-prepare-requires
+prepare-requires c κs = search needs
+
+downward-requires : tie.Need-downward-requires
+downward-requires c κs = search needs
+
+same-length-3 : tie.Need-same-length-3
+same-length-3 c = search needs
+
+returns-3 : tie.Need-returns-3
+unfolding underflowLimit powerSeriesIf powerSeriesOf
+returns-3 c =
+    let d = c .before .before in
+    let p = d .before .before in
+    rw (p .before .before .before .if1 .left, ← p .prepare .ensures) (d .downward .ensures)
 
 pub power-series-spec : {M : Type 1} → statement M
 power-series-spec =
@@ -40,7 +71,11 @@ power-series-spec =
     tiny-requires
     same-length
     returns
+    is-alone-requires
+    alone-requires
+    same-length-2
+    returns-2
     prepare-requires
     downward-requires
-    same-length-2
-    returns-2)
+    same-length-3
+    returns-3)

@@ -1,0 +1,101 @@
+-- Sums with a zero and products with 1 and with a zero: which of them give the other operand back, and which a zero. General: for any f64. Assumes nothing.
+use mathlib.Core.Path.{_≡_, refl, sym, ap, _∙_, subst}
+use mathlib.Core.Bool.{Bool, true, false, _||_, Bool·beq, true≢false}
+use Prim.Native.Nat.{ℕ, zero, suc, _+_, _-_, _*_, _^_, _≤_, _<_}
+use native.Mathlib.Nat.{mul-pos, mul-one, zero-mul, mul-zero, lt-of-lt-of-le, mul-lt-mul-of-pos-right, le-of-eq, le-trans, zero-lt-suc}
+use lib.Pow.{pow-pos, pow-add, pow-mono}
+use native.Mathlib.Omega.{arith}
+use lib.IntN.{ℤ, pos}
+use lib.Dec.{T, ltb, eqb, eqb→eq, lit<}
+use lib.Ieee.{Float, nan, inf, fin, binary64, ofBits, up, down, unlike, round, sum, fits, neg, add, sub, mul, eq}
+use lib.Ieee.Exact.{round-exact}
+use lib.Ieee.Fits.{and-l, up-pos, down-pos, round-fits}
+use lib.Ieee.Scale.{finite}
+use borrow.Author.Tests.{lt-ltb, le-ltb}
+use Rattle.laws.proofs.Order.{round-zero}
+use Rattle.laws.proofs.Power.{unique, digits}
+use Rattle.laws.proofs.Sign.{add-comm-float}
+use Rattle.power_series.specs.Error.{one}
+use Rattle.power_series.specs.Plain.{Something}
+
+abbrev pub zeroOf : Bool → Float
+zeroOf s = fin s 0 (pos 0)
+
+zero-fits : (s : Bool) → T (fits binary64 (zeroOf s))
+unfolding fits
+zero-fits s = tt
+
+pub zero-is : (x : Float) → T (fits binary64 x) → eq x (ofBits binary64 0) ≡ true → (s : Bool) × (x ≡ zeroOf s)
+unfolding ofBits eq
+zero-is nan F h = absurd (true≢false (sym h))
+zero-is (inf s) F h = absurd (true≢false (sym h))
+zero-is (fin s m e) F h =
+    let v : m * up e * 1 ≡ 0 * 1 * down e = eqb→eq (m * up e * 1) (0 * 1 * down e) (and-l (eqb (m * up e * 1) (0 * 1 * down e)) (Bool·beq s false || eqb (m * up e * 1) 0) (subst T (sym h) tt)) in
+    (s, unique binary64 (fin s m e) (zeroOf s) s 0 1 0 1 (lit< tt) (lit< tt) F (zero-fits s) (refl, v) (refl, refl) refl)
+
+-- a value rounds to itself
+own-round : (s : Bool) (m : ℕ) (e : ℤ) → T (fits binary64 (fin s m e)) → round binary64 s (m * up e) (down e) ≡ fin s m e
+own-round s m e F =
+    let D = digits (fin s m e) F tt in
+    let u : D .q * 2 ^ D .j < 2 ^ (1074 + 1024) =
+    lt-of-lt-of-le (mul-lt-mul-of-pos-right (D .few) (pow-pos (D .j))) (le-trans (le-of-eq (sym (pow-add 2 53 (D .j)))) (pow-mono (top (D .j) (D .low)))) in
+    unique binary64 (round binary64 s (m * up e) (down e)) (fin s m e) s (m * up e) (down e) (m * up e) (down e) (down-pos e) (down-pos e) (round-fits binary64 s (m * up e) (down e)) F
+    (round-exact binary64 s (m * up e) (down e) (D .q) (D .j) (down-pos e) (D .few) u (D .value .1)) (refl, refl) refl
+  where
+    top : (j : ℕ) → j < 2046 → 53 + j ≤ 1074 + 1024
+    top j h = omega arith
+
+like : (s : Bool) → unlike s false ≡ s
+like true = refl
+like false = refl
+
+pub mul-one-float : (x : Float) → T (fits binary64 x) → mul binary64 x one ≡ x
+unfolding mul ofBits
+mul-one-float nan F = refl
+mul-one-float (inf s) F = ap inf (like s)
+mul-one-float (fin s m e) F = rw (like s, mul-one (m * up e), mul-one (down e)) (own-round s m e F)
+
+pub mul-zero-float : (x : Float) (t : Bool) → T (finite x) → (s : Bool) × (mul binary64 x (zeroOf t) ≡ zeroOf s)
+unfolding mul
+mul-zero-float nan t h = absurd h
+mul-zero-float (inf s) t h = absurd h
+mul-zero-float (fin s m e) t h =
+    (unlike s t, ap (λ (n : ℕ). round binary64 (unlike s t) n (down e * 1)) (mul-zero (m * up e)) ∙ round-zero binary64 (unlike s t) (down e * 1) (mul-pos (down-pos e) (zero-lt-suc 0)))
+
+-- a zero beside something
+sum-zero : (s t : Bool) (a c : ℕ) → 0 < a → sum binary64 s a t 0 c ≡ round binary64 s a c
+unfolding sum
+sum-zero true true a c h = ap (λ (n : ℕ). round binary64 true n c) (omega arith)
+sum-zero false false a c h = ap (λ (n : ℕ). round binary64 false n c) (omega arith)
+sum-zero true false a c h = rw (le-ltb a 0 (omega arith), lt-ltb 0 a h) (ap (λ (n : ℕ). round binary64 true n c) (omega arith))
+sum-zero false true a c h = rw (le-ltb a 0 (omega arith)) (ap (λ (n : ℕ). round binary64 false n c) (omega arith))
+
+zero-equal : (s : Bool) → eq (zeroOf s) (ofBits binary64 0) ≡ true
+unfolding ofBits eq
+zero-equal true = refl
+zero-equal false = refl
+
+some : (s : Bool) (m : ℕ) (e : ℤ) → T (fits binary64 (fin s m e)) → eq (fin s m e) (ofBits binary64 0) ≡ false → 0 < m
+some s zero e F h =
+    let z : fin s 0 e ≡ zeroOf s = unique binary64 (fin s 0 e) (zeroOf s) s 0 1 0 1 (lit< tt) (lit< tt) F (zero-fits s) (refl, none (up e) (down e)) (refl, refl) refl in
+    absurd (true≢false (sym (ap (λ (x : Float). eq x (ofBits binary64 0)) z ∙ zero-equal s) ∙ h))
+  where
+    none : (a b : ℕ) → 0 * a * 1 ≡ 0 * b
+    none a b = omega arith
+some s (suc m) e F h = zero-lt-suc m
+
+pub add-zero-float : (x : Float) (t : Bool) → Something x → add binary64 x (zeroOf t) ≡ x
+unfolding add
+add-zero-float nan t h = absurd (h .bounded)
+add-zero-float (inf s) t h = absurd (h .bounded)
+add-zero-float (fin s m e) t h =
+    let positive : 0 < m * up e = mul-pos (some s m e (h .holds) (h .other)) (up-pos e) in
+    rw (mul-one (m * up e), zero-mul (down e), mul-one (down e)) (sum-zero s t (m * up e) (down e) positive ∙ own-round s m e (h .holds))
+
+pub sub-zero-float : (x : Float) (t : Bool) → Something x → sub binary64 x (zeroOf t) ≡ x
+unfolding sub neg
+sub-zero-float x true h = add-zero-float x false h
+sub-zero-float x false h = add-zero-float x true h
+
+pub zero-add-float : (x : Float) (t : Bool) → Something x → add binary64 (zeroOf t) x ≡ x
+zero-add-float x t h = add-comm-float binary64 (zeroOf t) x ∙ add-zero-float x t h

@@ -1,0 +1,64 @@
+// Order 0 by itself, unscaled: its leading factor is 1, whatever ln(z/2) is, so that the sum is the entry and neither the logarithm nor the
+// exponential is worked out. Promised: the visit of one order, as specs/Visit.antt has it. Where the sum has a zero part, or is not finite,
+// the visit itself is taken.
+ghost use mathlib.Core.Path.{_≡_};
+ghost use mathlib.Core.Bool.{true, false};
+ghost use lib.Ieee.{binary64, ofBits, eq};
+ghost use lib.ListN.{length};
+ghost use Rattle.power_series.specs.Ground.{groundOf};
+ghost use Rattle.power_series.specs.Plain.{Something, Plain};
+ghost use Rattle.power_series.specs.Visit.{visitOf};
+use crate::ground::prepare;
+use crate::ground::square_of;
+use crate::ground::turn;
+use crate::sum::single_n_iteration;
+use crate::visit::Visit;
+use crate::visit::downward;
+use complex::number::Complex;
+use refusal::finite::is_finite;
+
+fn is_something(x: f64) -> bool
+    ensures { λ r. ⌜ (r ≡ true → Something x) ⌝ }
+{
+    if x == 0.0 {
+        return false;
+    }
+    is_finite(x)
+}
+
+fn is_plain(modulus: f64, value: Complex) -> bool
+    ensures { λ r. ⌜ (r ≡ true → Plain modulus value) ⌝ }
+{
+    if modulus <= 0.0 {
+        return false;
+    }
+    if is_finite(modulus) {
+        if is_something(value.re) {
+            return is_something(value.im);
+        }
+    }
+    false
+}
+
+pub fn alone(turned: bool, order: f64, z: Complex, modulus: f64, out: &mut [f64]) -> Visit
+    requires { ⌜ (eq order (ofBits binary64 0) ≡ true) × (length (now out) ≡ 2) ⌝ }
+    ensures { λ r. ⌜ (r ≡ visitOf (groundOf false turned order z modulus) 1 .visit) × (now (out .exit) ≡ visitOf (groundOf false turned order z modulus) 1 .cells) ⌝ }
+{
+    let half = z.times_real(0.5);
+    let half_modulus = modulus * 0.5;
+    let half_z_sq = turn(turned, square_of(modulus, half));
+    let sum = single_n_iteration(order + 0.0, half_z_sq, half_modulus * half_modulus);
+    let value = sum.value;
+    if is_plain(half.modulus(), value) {
+        out[0] = value.re;
+        out[1] = value.im;
+        return Visit {
+            zeros: 0,
+            stopped: false,
+            place: 0,
+            longest_sum: sum.terms,
+            rungs: 0,
+        };
+    }
+    downward(prepare(false, turned, order, z, modulus), out)
+}

@@ -1,0 +1,7 @@
+-- The theorems, by topic.
+pub mod Answers
+pub mod CellFacts
+pub mod Counts
+pub mod LeadFacts
+pub mod OrderFacts
+pub mod SeedFacts

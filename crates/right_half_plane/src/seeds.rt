@@ -1,0 +1,229 @@
+// The seed stage: K at the order's fraction and one above it, by Temme's sum for |z| to 2, by Miller's steps above, by neither at a fraction of ±0.5.
+// From src/amos/right_half_plane.rs, k_right_half_plane (ZBKNU). Promised: seedOf of specs/Seeds.antt. The modulus, 2/z and the angle are not worked out again.
+ghost use mathlib.Core.Path.{_≡_};
+ghost use Rattle.right_half_plane.specs.Seeds.{isHalf, growthState, withExponential, temmePair, temmeSeeds, pointWith, orderOf, isFar, coefficientOf, farState, millerSeeds, otherSeeds, seedOf};
+use crate::ground::Ground;
+use crate::ground::is_alone;
+use circular::cos_pi::cos_pi;
+use complex::functions::at_half_angle;
+use complex::lost::magnitude;
+use complex::number::Complex;
+use complex::number::real_over;
+use machine::constants::Machine;
+use miller::point::Order;
+use miller::point::Point;
+use miller::point::at;
+use miller::point::is_real;
+use miller::seeds::MillerSeeds;
+use recurrence::state::OverflowState;
+use recurrence::state::scale;
+use refusal::refusal::Refusal;
+use roots::sqrt::sqrt;
+use temme::seeds::Temme;
+
+// One finished value, a pair of neighbouring seeds, or a refusal.
+pub enum Seeds {
+    Finished(Complex),
+    Pair(Complex, Complex),
+    Refused(Refusal),
+}
+
+// Beside them the state of their scale, whether they stand without e^-z, the terms of Temme's sum and Miller's backward steps.
+pub struct Seeded {
+    pub seeds: Seeds,
+    pub state: OverflowState,
+    pub underflow: bool,
+    pub terms: u32,
+    pub backward: u32,
+}
+
+fn is_half(fraction: f64) -> bool
+    ensures { λ r. ⌜ r ≡ isHalf fraction ⌝ }
+{
+    magnitude(fraction) == 0.5
+}
+
+// a large sinh μ over the fraction tells that the climb may overflow
+fn growth_state(order: f64, shinc: Complex) -> OverflowState
+    ensures { λ r. ⌜ r ≡ growthState order shinc ⌝ }
+{
+    if (order + 1.0) * magnitude(shinc.re) > Machine::APPROXIMATION_LIMIT {
+        return OverflowState::NearOver;
+    }
+    OverflowState::None
+}
+
+fn with_exponential(scaled: bool, z: Complex, value: Complex) -> Complex
+    ensures { λ r. ⌜ r ≡ withExponential scaled z value ⌝ }
+{
+    if scaled {
+        return value.product(z.exp());
+    }
+    value
+}
+
+fn temme_pair(g: Ground, scaled: bool, factor: f64, t: Temme) -> Seeds
+    ensures { λ r. ⌜ r ≡ temmePair g scaled factor t ⌝ }
+{
+    let z = g.z;
+    let two_over_z = g.two_over_z;
+    let low = t.first;
+    let high = t.second;
+    let first = low.times_real(factor);
+    let second = high.product(two_over_z.times_real(factor));
+    if scaled {
+        let growth = z.exp();
+        return Seeds::Pair(first.product(growth), second.product(growth));
+    }
+    Seeds::Pair(first, second)
+}
+
+fn temme_seeds(g: Ground, scaled: bool) -> Seeded
+    ensures { λ r. ⌜ r ≡ temmeSeeds g scaled ⌝ }
+{
+    let z = g.z;
+    let two_over_z = g.two_over_z;
+    let t = temme::seeds::seeds(z, g.modulus, two_over_z.ln(), g.fraction, g.square);
+    let terms = t.terms;
+    if is_alone(g) {
+        return Seeded {
+            seeds: Seeds::Finished(with_exponential(scaled, z, t.first)),
+            state: OverflowState::None,
+            underflow: false,
+            terms,
+            backward: 0,
+        };
+    }
+    let state = growth_state(g.order, t.shinc);
+    Seeded {
+        seeds: temme_pair(g, scaled, scale(state), t),
+        state,
+        underflow: false,
+        terms,
+        backward: 0,
+    }
+}
+
+fn order_of(fraction: f64, square: f64) -> Order
+    ensures { λ r. ⌜ r ≡ orderOf fraction square ⌝ }
+{
+    Order {
+        fraction,
+        square,
+        rotation: magnitude(cos_pi(fraction)),
+        distance: magnitude(0.25 - square),
+    }
+}
+
+// the real path takes the real part for the modulus, and asks for no angle
+fn point_with(z: Complex, modulus: f64, root: f64, angle: f64) -> Point
+    ensures { λ r. ⌜ r ≡ pointWith z modulus root angle ⌝ }
+{
+    if is_real(z) {
+        return at(z);
+    }
+    Point {
+        z,
+        modulus,
+        root,
+        angle,
+    }
+}
+
+// e^-z would underflow: the seeds stay without it
+fn is_far(scaled: bool, z: Complex) -> bool
+    ensures { λ r. ⌜ r ≡ isFar scaled z ⌝ }
+{
+    if scaled {
+        return false;
+    }
+    z.re > Machine::APPROXIMATION_LIMIT
+}
+
+// the square root of π/2 over that of z
+fn coefficient(scaled: bool, underflow: bool, z: Complex, root: f64, angle: f64) -> Complex
+    ensures { λ r. ⌜ r ≡ coefficientOf scaled underflow z root angle ⌝ }
+{
+    let plain = real_over(1.2533141373155003, at_half_angle(root, angle));
+    if scaled {
+        return plain;
+    }
+    if underflow {
+        return plain;
+    }
+    plain.product(z.opposite().exp())
+}
+
+fn far_state(underflow: bool) -> OverflowState
+    ensures { λ r. ⌜ r ≡ farState underflow ⌝ }
+{
+    if underflow {
+        return OverflowState::NearUnder;
+    }
+    OverflowState::None
+}
+
+fn miller_seeds(underflow: bool, found: MillerSeeds) -> Seeded
+    ensures { λ r. ⌜ r ≡ millerSeeds underflow found ⌝ }
+{
+    match found {
+        MillerSeeds::Pair(m) => {
+            let first = m.first;
+            let second = m.second;
+            Seeded {
+                seeds: Seeds::Pair(first, second),
+                state: far_state(underflow),
+                underflow,
+                terms: 0,
+                backward: m.backward,
+            }
+        }
+        MillerSeeds::Refused(refusal) => Seeded {
+            seeds: Seeds::Refused(refusal),
+            state: far_state(underflow),
+            underflow,
+            terms: 0,
+            backward: 0,
+        },
+    }
+}
+
+fn other_seeds(g: Ground, scaled: bool) -> Seeded
+    ensures { λ r. ⌜ r ≡ otherSeeds g scaled ⌝ }
+{
+    let z = g.z;
+    let root = sqrt(g.modulus);
+    let angle = z.argument();
+    let underflow = is_far(scaled, z);
+    let value = coefficient(scaled, underflow, z, root, angle);
+    if is_half(g.fraction) {
+        return Seeded {
+            seeds: Seeds::Pair(value, value),
+            state: far_state(underflow),
+            underflow,
+            terms: 0,
+            backward: 0,
+        };
+    }
+    miller_seeds(
+        underflow,
+        miller::seeds::seeds(
+            point_with(z, g.modulus, root, angle),
+            order_of(g.fraction, g.square),
+            value,
+            is_alone(g),
+        ),
+    )
+}
+
+pub fn seed(g: Ground, scaled: bool) -> Seeded
+    ensures { λ r. ⌜ r ≡ seedOf g scaled ⌝ }
+{
+    if is_half(g.fraction) {
+        return other_seeds(g, scaled);
+    }
+    if g.modulus <= 2.0 {
+        return temme_seeds(g, scaled);
+    }
+    other_seeds(g, scaled)
+}

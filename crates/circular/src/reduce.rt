@@ -2,7 +2,7 @@
 // The nearest whole number comes from an addition to 2^52, whose unit is 1, and the quarter turns from the sum's last bits.
 // Promised: the bits of the definitions for every argument.
 ghost use mathlib.Core.Path.{_≡_};
-ghost use Rattle.circular.specs.Reduce.{withinTurns, quartersOf, reduceOf, leading, withinTwo, halvesOf, reducePiOf};
+ghost use Rattle.circular.specs.Reduce.{quartersOf, reduceOf, leading, withinTwo, halvesOf, reducePiOf};
 use machine::bits::of_pattern;
 use machine::bits::pattern;
 
@@ -32,15 +32,6 @@ const PI: f64 = 3.141592653589793;
 // 2^52
 const SHIFT: f64 = 4503599627370496.0;
 
-fn within_turns(a: f64) -> f64
-    ensures { λ r. ⌜ r ≡ withinTurns a ⌝ }
-{
-    if a > 65536.0 {
-        return a % TURNS;
-    }
-    a
-}
-
 fn quarters(a: f64) -> Reduced
     ensures { λ r. ⌜ r ≡ quartersOf a ⌝ }
 {
@@ -66,7 +57,11 @@ pub fn reduce(a: f64) -> Reduced
             quarter: 0,
         };
     }
-    quarters(within_turns(a))
+    // each way has its own call, so that the rest is worked out only where it is wanted
+    if a > 65536.0 {
+        return quarters(a % TURNS);
+    }
+    quarters(a)
 }
 
 // The leading 26 digits.

@@ -6,6 +6,7 @@ pub mod SumEnds
 pub mod FillFacts
 pub mod StepFacts
 pub mod WalkFacts
+pub mod PairFacts
 pub mod VisitSums
 pub mod Constants
 pub mod VisitFacts

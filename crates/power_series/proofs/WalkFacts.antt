@@ -5,7 +5,7 @@ use mathlib.Core.List.{List, [], _∷_, _++_}
 use Prim.Native.Nat.{ℕ, suc, _+_, _-_, _*_, _≤_, _<_}
 use native.Mathlib.Nat.{le-refl}
 use native.Mathlib.Omega.{arith}
-use lib.ListN.{length, drop, set, replicate}
+use lib.ListN.{length, drop, set, replicate, length-drop, take-append-drop}
 use lib.Ieee.{Float}
 use borrow.Rule.Slice.PartMut.{midOf, putMid}
 use Rattle.laws.specs.Run.{run}
@@ -16,8 +16,16 @@ use Rattle.power_series.specs.declared.ground.Ground.{Ground}
 use Rattle.power_series.specs.declared.step.Descent.{Descent}
 use Rattle.power_series.specs.declared.visit.Reached.{Reached}
 use Rattle.power_series.specs.Step.{startDescent, stepOf}
-use Rattle.power_series.specs.Visit.{Walk, startWalk, isStopped, withEntry, nextWalk, walkOf}
+use Rattle.power_series.specs.Pair.{Settled, walkFrom}
+use Rattle.power_series.specs.Visit.{Walk, startWalk, isStopped, withEntry, nextWalk, walkOf, visitedOf, concludedOf, visitOf}
 use Rattle.power_series.proofs.StepFacts.{zeros-grow, rungs-grow}
+
+-- nothing is written yet above the n-th cell
+down-from : (n : ℕ) (d : List Float) → n ≤ length d → Down d (drop n d) n d
+down-from n d h = record { count = count; same = refl; is = sym (take-append-drop n d) }
+  where
+    count : n + length (drop n d) ≡ length d
+    count = simp length-drop (omega arith)
 
 abbrev pub stopping : ℕ → Walk → Bool
 stopping i w = isStopped w
@@ -28,19 +36,19 @@ stepping g i w = nextWalk g w
 abbrev pub at : ℕ → Descent → List Float → Walk
 at left state cells = record { reached = record { left = left; state = state }; cells = cells }
 
--- `left` of n orders are left, and of the buffer d the cells above them are written
-pub record Walking (g : Ground) (d : List Float) (n left : ℕ) (state : Descent) (out : List Float) : Type 0 where
+-- `left` of n orders are left, of the buffer d the cells above them are written, and the walk ends as the whole one does
+pub record Walking (g : Ground) (whole : Walk) (d : List Float) (n left : ℕ) (state : Descent) (out : List Float) : Type 0 where
   pub cells : List Float
   pub down : Down d cells (left * 2) out
   pub low : left ≤ n
   pub zeros : state .counts .zeros + left ≤ n
   pub rungs : state .counts .rungs + left ≤ n
-  pub rest : walkOf g n ≡ run stopping (stepping g) left (n - left) (at left state cells)
+  pub rest : whole ≡ run stopping (stepping g) left (n - left) (at left state cells)
 
 module _ (g : Ground) (d : List Float) (n : ℕ) where
-  pub walking-start : length d ≡ n * 2 → (state : Descent) → state ≡ startDescent → Walking g d n n state d
+  pub walking-start : length d ≡ n * 2 → (state : Descent) → state ≡ startDescent → Walking g (walkOf g n) d n n state d
   unfolding walkOf startWalk startDescent
-  walking-start e state s = subst (λ (t : Descent). Walking g d n n t d) (sym s) (record {
+  walking-start e state s = subst (λ (t : Descent). Walking g (walkOf g n) d n n t d) (sym s) (record {
     cells = [];
     down = subst (λ (k : ℕ). Down d [] k d) e (down-start d);
     low = le-refl n;
@@ -52,10 +60,24 @@ module _ (g : Ground) (d : List Float) (n : ℕ) where
       none : 0 ≡ n - n
       none = omega arith
 
-  module _ {left : ℕ} {state : Descent} {out : List Float} (w : Walking g d n left state out) where
+  -- from where `left` orders are left
+  pub walking-from : (left : ℕ) (state : Descent) → length d ≡ n * 2 → Settled n left state → Walking g (walkFrom g n left state (drop (left * 2) d)) d n left state d
+  unfolding walkFrom
+  walking-from left state e s =
+      let low : left ≤ n = s .low in
+      record {
+        cells = drop (left * 2) d;
+        down = down-from (left * 2) d (omega arith);
+        low = low;
+        zeros = s .zeros;
+        rungs = s .rungs;
+        rest = refl;
+      }
+
+  module _ {whole : Walk} {left : ℕ} {state : Descent} {out : List Float} (w : Walking g whole d n left state out) where
     pub walking-step :
         (t : Descent) → t ≡ stepOf g (left - 1) state → 0 < left → state .stopped ≡ false →
-        Walking g d n (left - 1) t (set (set out ((left - 1) * 2 + 1) (t .above .im)) ((left - 1) * 2) (t .above .re))
+        Walking g whole d n (left - 1) t (set (set out ((left - 1) * 2 + 1) (t .above .im)) ((left - 1) * 2) (t .above .re))
     unfolding isStopped nextWalk withEntry
     walking-step t e h s =
         let z : t .counts .zeros ≤ state .counts .zeros + 1 = subst (λ (q : Descent). q .counts .zeros ≤ state .counts .zeros + 1) (sym e) (zeros-grow g (left - 1) state) in
@@ -86,18 +108,23 @@ module _ (g : Ground) (d : List Float) (n : ℕ) where
         next : (n left : ℕ) → 0 < left → left ≤ n → suc (n - left) ≡ n - (left - 1)
         next n left h l = omega arith
 
-    pub walking-stop : state .stopped ≡ true → walkOf g n ≡ at left state (w .cells)
+    pub walking-stop : state .stopped ≡ true → whole ≡ at left state (w .cells)
     unfolding isStopped
     walking-stop s = w .rest ∙ run-stop stopping (stepping g) left (n - left) (at left state (w .cells)) s
 
-    pub walking-end : left ≡ 0 → walkOf g n ≡ at left state (w .cells)
+    pub walking-end : left ≡ 0 → whole ≡ at left state (w .cells)
     walking-end e = w .rest ∙ ap (λ (m : ℕ). run stopping (stepping g) m (n - left) (at left state (w .cells))) e ∙ run-out stopping (stepping g) (n - left) (at left state (w .cells))
 
+    -- the visit from here on
+    pub walking-whole : whole ≡ walkFrom g n left state (drop (left * 2) out)
+    unfolding walkFrom
+    walking-whole = w .rest ∙ ap (λ (l : List Float). run stopping (stepping g) left (n - left) (at left state l)) (sym (down-drop (w .down)))
+
     -- the answer of the loop
-    pub walking-reached : walkOf g n ≡ at left state (w .cells) → record { left = left; state = state } ≡ walkOf g n .reached
+    pub walking-reached : whole ≡ at left state (w .cells) → record { left = left; state = state } ≡ whole .reached
     walking-reached e = ap (λ (q : Walk). q .reached) (sym e)
 
-    pub walking-cells : walkOf g n ≡ at left state (w .cells) → drop (left * 2) out ≡ walkOf g n .cells
+    pub walking-cells : whole ≡ at left state (w .cells) → drop (left * 2) out ≡ whole .cells
     walking-cells e = down-drop (w .down) ∙ ap (λ (q : Walk). q .cells) (sym e)
 
 -- no more orders are left than there were
@@ -114,3 +141,9 @@ below-filled a xs ys zs r q h f e g =
     put-front a xs ys
     ∙ ap (λ (l : List Float). l ++ drop a xs) (f ∙ ap (λ (k : ℕ). replicate k r) (front-length a xs h) ∙ ap (λ (x : Float). replicate a x) e)
     ∙ ap (λ (l : List Float). replicate a q ++ l) g
+
+-- the record and the cells of a visit that ended at r
+pub concluded-visit : (g : Ground) (n : ℕ) (r : Reached) (out : List Float) → r ≡ walkOf g n .reached → drop (r .left * 2) out ≡ walkOf g n .cells → concludedOf r out ≡ visitOf g n
+unfolding concludedOf visitOf
+concluded-visit g n r out e f =
+    ap (λ (l : List Float). visitedOf (record { reached = r; cells = l })) f ∙ ap (λ (q : Reached). visitedOf (record { reached = q; cells = walkOf g n .cells })) e

@@ -5,6 +5,7 @@ pub mod Sum
 pub mod Ground
 pub mod Step
 pub mod Visit
+pub mod Pair
 pub mod Tiny
 pub mod Plain
 pub mod Series

@@ -1,6 +1,6 @@
 -- The sum at one order as `single_n_iteration` of src/amos/power_series.rs (ZSERI) takes it: w is (z/2) squared, x its modulus, u the order plus one. Definitions only.
-use mathlib.Core.Bool.{Bool, true, false, not}
-use Prim.Native.Nat.{ℕ, _+_}
+use mathlib.Core.Bool.{Bool, true, false, not, _&&_}
+use Prim.Native.Nat.{ℕ, _+_, _-_}
 use lib.Ieee.{Float, binary64, ofBits, add, div, lt}
 use Rattle.laws.specs.Run.{run}
 use Rattle.complex.specs.declared.number.Complex.{Complex}
@@ -31,6 +31,23 @@ sumWithin bound w x u tolerance = run (λ i s. isSummed tolerance s) (λ i s. ne
 
 unfoldable pub sumFrom : Complex → Float → Float → Float → Partial
 sumFrom w x u tolerance = sumWithin 19 w x u tolerance
+
+-- what is left of a sum under way, within the same bound
+abbrev pub sumRest : Complex → Float → Float → Partial → Partial
+sumRest w x tolerance s = run (λ i p. isSummed tolerance p) (λ i p. nextSum w x p) (19 - s .terms) (s .terms) s
+
+-- a sum that is at its end
+abbrev pub outcomeOf : Partial → Sum
+outcomeOf s = record { value = s .value; terms = s .terms }
+
+-- 1 where the sum is that at once
+unfoldable pub oneOr : Bool → Sum → Sum
+oneOr true s = record { value = complexOne; terms = 0 }
+oneOr false s = s
+
+-- two sums both go on
+unfoldable pub bothGoOn : Float → Float → Partial → Partial → Bool
+bothGoOn t u p q = lt t (p .estimate .error) && lt u (q .estimate .error)
 
 unfoldable pub sumUnless : Bool → Complex → Float → Float → Sum
 sumUnless true w x u = record { value = complexOne; terms = 0 }

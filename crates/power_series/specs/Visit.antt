@@ -2,7 +2,7 @@
 use mathlib.Core.Bool.{Bool}
 use mathlib.Core.List.{List, [], _∷_, _++_}
 use Prim.Native.Nat.{ℕ, _-_, _*_}
-use lib.ListN.{replicate}
+use lib.ListN.{replicate, drop}
 use lib.Ieee.{Float}
 use Rattle.laws.specs.Run.{run}
 use Rattle.machine.specs.Constants.{notANumber}
@@ -47,6 +47,10 @@ visitedOf w =
       visit = record { zeros = s .counts .zeros; stopped = s .stopped; place = w .reached .left; «longest_sum» = s .counts .«longest_sum»; rungs = s .counts .rungs };
       cells = replicate (w .reached .left * 2) notANumber ++ w .cells;
     }
+
+-- the visit that ended at r, with these cells in the buffer
+unfoldable pub concludedOf : Reached → List Float → Visited
+concludedOf r out = visitedOf (record { reached = r; cells = drop (r .left * 2) out })
 
 unfoldable pub visitOf : Ground → ℕ → Visited
 visitOf g n = visitedOf (walkOf g n)

@@ -13,7 +13,7 @@ use crate::ground::square_of;
 use crate::ground::turn;
 use crate::sum::single_n_iteration;
 use crate::visit::Visit;
-use crate::visit::downward;
+use crate::visit::stepwise;
 use complex::number::Complex;
 use refusal::finite::is_finite;
 
@@ -60,5 +60,5 @@ pub fn alone(turned: bool, order: f64, z: Complex, modulus: f64, out: &mut [f64]
             rungs: 0,
         };
     }
-    downward(prepare(false, turned, order, z, modulus), out)
+    stepwise(prepare(false, turned, order, z, modulus), out)
 }

@@ -3,8 +3,10 @@
 pub mod alone;
 pub mod fill;
 pub mod ground;
+pub mod pair;
 pub mod series;
 pub mod step;
 pub mod sum;
+pub mod sums;
 pub mod tiny;
 pub mod visit;

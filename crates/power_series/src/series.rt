@@ -8,9 +8,9 @@ ghost use lib.ListN.{length};
 ghost use Rattle.power_series.specs.Series.{powerSeriesOf};
 use crate::alone::alone;
 use crate::ground::prepare;
+use crate::pair::downward;
 use crate::tiny::tiny;
 use crate::visit::Visit;
-use crate::visit::downward;
 use complex::number::Complex;
 use machine::constants::Machine;
 

@@ -51,7 +51,7 @@ pub fn start() -> Descent
     }
 }
 
-fn leading(g: Ground, order: f64) -> Complex
+pub fn leading(g: Ground, order: f64) -> Complex
     ensures { λ r. ⌜ r ≡ leadingOf g order ⌝ }
 {
     let logarithm = g.ln_half_z;
@@ -90,7 +90,7 @@ fn longest(terms: u32, longest_sum: u32) -> u32
     longest_sum
 }
 
-fn marked(exponent: f64, terms: u32, s: Descent) -> Descent
+pub fn marked(exponent: f64, terms: u32, s: Descent) -> Descent
     ensures { λ r. ⌜ r ≡ markedOf exponent terms s ⌝ }
 {
     let older = s.y_k_plus_2;
@@ -146,7 +146,7 @@ fn seed_or(seeds: bool, value: Complex, other: Complex) -> Complex
 }
 
 // the first seed is the older value, the second the newer one
-fn kept(value: Complex, s: Descent) -> Descent
+pub fn kept(value: Complex, s: Descent) -> Descent
     requires { ⌜ s .seeded < 2 ⌝ }
     ensures { λ r. ⌜ r ≡ keptOf value s ⌝ }
 {
@@ -211,7 +211,7 @@ fn seed(g: Ground, order: f64, s: Descent) -> Descent
     summed(g, order, lead, s)
 }
 
-fn backward(g: Ground, k: u32, older: Complex, newer: Complex) -> Complex
+pub fn backward(g: Ground, k: u32, older: Complex, newer: Complex) -> Complex
     requires { ⌜ k + 1 < 2 ^ 32 ⌝ }
     ensures { λ r. ⌜ r ≡ backwardOf g k older newer ⌝ }
 {

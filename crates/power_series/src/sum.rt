@@ -2,8 +2,8 @@
 // From src/amos/power_series.rs, single_n_iteration. Promised: sumOf of specs/Sum.antt, with the number of terms after the leading 1.
 // The bound of 19 terms never decides: a sum that a visit begins leaves by its own test by then (proofs/VisitSums.antt).
 ghost use mathlib.Core.Path.{_≡_};
-ghost use Prim.Native.Nat.{_<_};
-ghost use Rattle.power_series.specs.Sum.{startSum, nextSum, sumFrom, sumOf};
+ghost use Prim.Native.Nat.{_≤_, _<_};
+ghost use Rattle.power_series.specs.Sum.{startSum, nextSum, sumRest, sumOf};
 use complex::number::Complex;
 use machine::constants::Machine;
 
@@ -27,7 +27,7 @@ pub struct Partial {
     pub terms: u32,
 }
 
-fn start(order_plus_one: f64) -> Partial
+pub fn start(order_plus_one: f64) -> Partial
     ensures { λ r. ⌜ r ≡ startSum «order_plus_one» ⌝ }
 {
     let one = Complex { re: 1.0, im: 0.0 };
@@ -43,7 +43,7 @@ fn start(order_plus_one: f64) -> Partial
     }
 }
 
-fn next(half_z_sq: Complex, abs_half_z_sq: f64, s: Partial) -> Partial
+pub fn next(half_z_sq: Complex, abs_half_z_sq: f64, s: Partial) -> Partial
     requires { ⌜ s .terms < 19 ⌝ }
     ensures { λ r. ⌜ r ≡ nextSum «half_z_sq» «abs_half_z_sq» s ⌝ }
 {
@@ -64,19 +64,41 @@ fn next(half_z_sq: Complex, abs_half_z_sq: f64, s: Partial) -> Partial
     }
 }
 
-fn run(half_z_sq: Complex, abs_half_z_sq: f64, order_plus_one: f64, tolerance: f64) -> Partial
-    ensures { λ r. ⌜ r ≡ sumFrom «half_z_sq» «abs_half_z_sq» «order_plus_one» tolerance ⌝ }
+// the last turn that the bound leaves
+fn last(half_z_sq: Complex, abs_half_z_sq: f64, tolerance: f64, s: Partial) -> Partial
+    requires { ⌜ (18 ≤ s .terms) × (s .terms ≤ 19) ⌝ }
+    ensures { λ r. ⌜ r ≡ sumRest «half_z_sq» «abs_half_z_sq» tolerance s ⌝ }
 {
-    let mut s = start(order_plus_one);
-    while s.terms < 19 {
+    let e = s.estimate;
+    if s.terms < 19 {
+        if e.error > tolerance {
+            return next(half_z_sq, abs_half_z_sq, s);
+        }
+    }
+    s
+}
+
+// Two turns at a time, so that a term stays in the registers in which it was worked out.
+pub fn finish(half_z_sq: Complex, abs_half_z_sq: f64, tolerance: f64, begun: Partial) -> Partial
+    requires { ⌜ begun .terms ≤ 19 ⌝ }
+    ensures { λ r. ⌜ r ≡ sumRest «half_z_sq» «abs_half_z_sq» tolerance begun ⌝ }
+{
+    let mut s = begun;
+    while s.terms < 18 {
         let e = s.estimate;
         if e.error > tolerance {
-            s = next(half_z_sq, abs_half_z_sq, s);
+            let t = next(half_z_sq, abs_half_z_sq, s);
+            let f = t.estimate;
+            if f.error > tolerance {
+                s = next(half_z_sq, abs_half_z_sq, t);
+            } else {
+                return t;
+            }
         } else {
             return s;
         }
     }
-    s
+    last(half_z_sq, abs_half_z_sq, tolerance, s)
 }
 
 pub fn single_n_iteration(order: f64, half_z_sq: Complex, abs_half_z_sq: f64) -> Sum
@@ -90,7 +112,7 @@ pub fn single_n_iteration(order: f64, half_z_sq: Complex, abs_half_z_sq: f64) ->
         };
     }
     let tolerance = Machine::TOLERANCE * abs_half_z_sq / order_plus_one;
-    let s = run(half_z_sq, abs_half_z_sq, order_plus_one, tolerance);
+    let s = finish(half_z_sq, abs_half_z_sq, tolerance, start(order_plus_one));
     let value = s.value;
     Sum {
         value,

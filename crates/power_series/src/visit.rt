@@ -1,9 +1,9 @@
-// The downward visit: orders v + n - 1 to v, each entry into its two cells from the top down, until a zeroed order stops it; the cells below hold
+// The downward visit, one order at a time: v + n - 1 to v, each entry into its two cells from the top down, until a zeroed order stops it; the cells below hold
 // the fixed not-a-number. From src/amos/power_series.rs, i_power_series (ZSERI). Promised: visitOf of specs/Visit.antt, record and cells.
 ghost use mathlib.Core.Path.{_≡_};
 ghost use Prim.Native.Nat.{_*_, _/_, _%_, _≤_};
 ghost use lib.ListN.{length, drop};
-ghost use Rattle.power_series.specs.Visit.{walkOf, visitOf};
+ghost use Rattle.power_series.specs.Visit.{walkOf, concludedOf, visitOf};
 use crate::fill::fill;
 use crate::ground::Ground;
 use crate::step::Descent;
@@ -46,11 +46,11 @@ fn descend(g: Ground, out: &mut [f64]) -> Reached
     Reached { left, state }
 }
 
-pub fn downward(g: Ground, out: &mut [f64]) -> Visit
-    requires { ⌜ (length (now out) % 2 ≡ 0) × (length (now out) ≤ 1024) ⌝ }
-    ensures { λ r. ⌜ (r ≡ visitOf g (length (now (out .entry)) / 2) .visit) × (now (out .exit) ≡ visitOf g (length (now (out .entry)) / 2) .cells) ⌝ }
+// The record of a visit that ended there, and the fixed not-a-number below it.
+pub fn concluded(r: Reached, out: &mut [f64]) -> Visit
+    requires { ⌜ (length (now out) ≤ 1024) × (r .left * 2 ≤ length (now out)) ⌝ }
+    ensures { λ v. ⌜ (v ≡ concludedOf r (now (out .entry)) .visit) × (now (out .exit) ≡ concludedOf r (now (out .entry)) .cells) ⌝ }
 {
-    let r = descend(g, out);
     let left = r.left;
     let s = r.state;
     let c = s.counts;
@@ -63,4 +63,12 @@ pub fn downward(g: Ground, out: &mut [f64]) -> Visit
         longest_sum: c.longest_sum,
         rungs: c.rungs,
     }
+}
+
+pub fn stepwise(g: Ground, out: &mut [f64]) -> Visit
+    requires { ⌜ (length (now out) % 2 ≡ 0) × (length (now out) ≤ 1024) ⌝ }
+    ensures { λ r. ⌜ (r ≡ visitOf g (length (now (out .entry)) / 2) .visit) × (now (out .exit) ≡ visitOf g (length (now (out .entry)) / 2) .cells) ⌝ }
+{
+    let r = descend(g, out);
+    concluded(r, out)
 }

@@ -68,8 +68,8 @@ returns c =
 prepare-requires : tie.Need-prepare-requires
 prepare-requires c κs = search needs
 
-downward-requires : tie.Need-downward-requires
-downward-requires c κs = search needs
+stepwise-requires : tie.Need-stepwise-requires
+stepwise-requires c κs = search needs
 
 same-length-2 : tie.Need-same-length-2
 same-length-2 c = search needs
@@ -80,8 +80,8 @@ returns-2 c =
     let p = d .before .before .prepare in
     let s = d .before .before .before .before .before .before .before .before .before .before .before .before in
     let n : length (s .args .out .now) / 2 ≡ 1 = omega (arith, s .pre .1) in (
-      d .downward .ensures .0 ∙ ap (λ (k : ℕ). visitOf (p .result) k .visit) n ∙ ap (λ (g : Ground). visitOf g 1 .visit) (p .ensures),
-      d .downward .ensures .1 ∙ ap (λ (k : ℕ). visitOf (p .result) k .cells) n ∙ ap (λ (g : Ground). visitOf g 1 .cells) (p .ensures),
+      d .stepwise .ensures .0 ∙ ap (λ (k : ℕ). visitOf (p .result) k .visit) n ∙ ap (λ (g : Ground). visitOf g 1 .visit) (p .ensures),
+      d .stepwise .ensures .1 ∙ ap (λ (k : ℕ). visitOf (p .result) k .cells) n ∙ ap (λ (g : Ground). visitOf g 1 .cells) (p .ensures),
     )
 
 pub alone-spec : {M : Type 1} → statement M
@@ -99,6 +99,6 @@ alone-spec =
     same-length
     returns
     prepare-requires
-    downward-requires
+    stepwise-requires
     same-length-2
     returns-2)

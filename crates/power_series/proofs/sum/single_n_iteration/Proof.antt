@@ -1,8 +1,11 @@
 -- `power_series::sum::single_n_iteration` meets its contract: the sum that is 1 at once, and the run. Assumes nothing.
-use mathlib.Core.Path.{ap, _∙_}
+use mathlib.Core.Path.{_≡_, sym, ap, _∙_}
+use native.Mathlib.Omega.{arith}
 use Rattle.machine.specs.Constants.{tolerance}
+use Rattle.power_series.specs.declared.sum.Partial.{Partial}
 use Rattle.power_series.specs.Error.{sumTolerance, sumIsOne}
-use Rattle.power_series.specs.Sum.{sumUnless, sumOf}
+use Rattle.power_series.specs.Sum.{sumRest, sumUnless, sumOf}
+use Rattle.power_series.proofs.SumRun.{terms-start, rest-start}
 use borrow.Author.Needs.{needs}
 use Rattle.power_series.proofs.sum.single_n_iteration.Statement.{statement}
 use Rattle.power_series.proofs.sum.single_n_iteration.Tie as tie
@@ -11,12 +14,20 @@ returns : tie.Need-returns
 unfolding tolerance sumIsOne sumUnless sumOf
 returns c = simp (c .if1 .taken)
 
-run-requires : tie.Need-run-requires
-run-requires c κs = search needs
+start-requires : tie.Need-start-requires
+start-requires c κs = search needs
+
+finish-requires : tie.Need-finish-requires
+finish-requires c κs =
+    let t = ap (λ (p : Partial). p .terms) (c .start .ensures) ∙ terms-start _ in
+    omega arith
 
 returns-2 : tie.Need-returns-2
 unfolding tolerance sumTolerance sumIsOne sumUnless sumOf
-returns-2 c = simp (c .before .before .if1 .left, c .before .run .ensures)
+returns-2 c =
+    let d = c .before .before in
+    let e = c .before .finish .ensures ∙ ap (sumRest _ _ _) (d .start .ensures) ∙ sym (rest-start _ _ _ _) in
+    simp (d .before .if1 .left, e)
 
 pub single-n-iteration-spec : {M : Type 1} → statement M
-single-n-iteration-spec = tie.close (tie.spec returns run-requires returns-2)
+single-n-iteration-spec = tie.close (tie.spec returns start-requires finish-requires returns-2)

@@ -3,13 +3,14 @@ use mathlib.Core.Path.{_≡_}
 use native.Mathlib.Omega.{arith}
 use Prim.Native.Nat.{_+_, _-_, _*_, _/_, _≤_, _<_}
 use lib.ListN.{length, length-set}
+use Rattle.power_series.specs.Visit.{walkOf}
 use Rattle.power_series.proofs.WalkFacts.{Walking, walking-start, walking-step, walking-stop, walking-end, walking-reached, walking-cells}
 use borrow.Author.Needs.{needs}
 use Rattle.power_series.proofs.visit.descend.Statement.{statement}
 use Rattle.power_series.proofs.visit.descend.Tie as tie
 
 abbrev Inv-loop : tie.InvT-loop
-Inv-loop g out₀ left₀ state₀ out left state = Walking g out₀ (length out₀ / 2) left state out
+Inv-loop g out₀ left₀ state₀ out left state = Walking g (walkOf g (length out₀ / 2)) out₀ (length out₀ / 2) left state out
 
 abbrev μ-loop : tie.MeasureT-loop
 μ-loop g out₀ left₀ state₀ out left state = left

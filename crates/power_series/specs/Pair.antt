@@ -1,0 +1,48 @@
+-- The visit whose two highest orders are both seeded far from underflow. Definitions only.
+use mathlib.Core.Path.{_≡_}
+use mathlib.Core.Bool.{false}
+use mathlib.Core.List.{List}
+use Prim.Native.Nat.{ℕ, _+_, _-_, _≤_}
+use lib.Ieee.{Float}
+use Rattle.laws.specs.Run.{run}
+use Rattle.complex.specs.declared.number.Complex.{Complex}
+use Rattle.complex.specs.Arithmetic.{productOf}
+use Rattle.complex.specs.Functions.{complexExpOf}
+use Rattle.power_series.specs.declared.ground.Ground.{Ground}
+use Rattle.power_series.specs.declared.sum.Sum.{Sum}
+use Rattle.power_series.specs.declared.step.Descent.{Descent}
+use Rattle.power_series.specs.declared.pair.Pair.{Pair}
+use Rattle.power_series.specs.Orders.{orderAt}
+use Rattle.power_series.specs.Sum.{sumOf}
+use Rattle.power_series.specs.Step.{startDescent, markedOf, keptOf, stepOf}
+use Rattle.power_series.specs.Visit.{Walk, isStopped, nextWalk}
+
+-- after an order that is seeded with the leading term e^lead
+unfoldable pub enteredOf : Complex → Complex → Sum → Descent → Descent
+enteredOf lead whole sum s = keptOf (productOf (sum .value) whole) (markedOf (lead .re) (sum .terms) s)
+
+-- after the two highest of n orders
+unfoldable pub pairOf : Ground → ℕ → Complex → Complex → Pair
+pairOf g n first second =
+    let higher = enteredOf first (complexExpOf first) (sumOf (orderAt (g .order) (n - 1)) (g .«half_z_sq») (g .«abs_half_z_sq»)) startDescent in
+    record { higher = higher; lower = enteredOf second (complexExpOf second) (sumOf (orderAt (g .order) (n - 2)) (g .«half_z_sq») (g .«abs_half_z_sq»)) higher }
+
+-- both seeds are there, nothing is on scale, and `left` of n orders are left
+pub record Settled (n left : ℕ) (s : Descent) : Type 0 where
+  pub seeded : s .seeded ≡ 2
+  pub off : s .«near_underflow» ≡ false
+  pub goes : s .stopped ≡ false
+  pub low : left ≤ n
+  pub zeros : s .counts .zeros + left ≤ n
+  pub rungs : s .counts .rungs + left ≤ n
+
+-- the pair is what the first two steps of a visit of n orders give
+pub record Begun (g : Ground) (n : ℕ) (p : Pair) : Type 0 where
+  pub higher : p .higher ≡ stepOf g (n - 1) startDescent
+  pub lower : p .lower ≡ stepOf g (n - 2) (p .higher)
+  pub goes : p .higher .stopped ≡ false
+  pub settled : Settled n (n - 2) (p .lower)
+
+-- the visit of n orders from where `left` are left
+unfoldable pub walkFrom : Ground → ℕ → ℕ → Descent → List Float → Walk
+walkFrom g n left s cells = run (λ i w. isStopped w) (λ i w. nextWalk g w) left (n - left) (record { reached = record { left = left; state = s }; cells = cells })

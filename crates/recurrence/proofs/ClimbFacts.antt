@@ -17,6 +17,12 @@ use Rattle.recurrence.specs.declared.state.OverflowState.the-variants.{N
 use Rattle.recurrence.specs.declared.state.Climb.{Climb}
 use Rattle.recurrence.specs.declared.state.Rung.{Rung}
 
+last-place : (s : OverflowState) → placeOf s ≤ 2
+unfolding placeOf
+last-place NearUnder = lit≤ tt
+last-place None = lit≤ tt
+last-place NearOver = lit≤ tt
+
 module _ (twoOverZ : Complex) (baseOrder : Float) where
   pub climb-out : (i : ℕ) (c : Climb) → climbFrom twoOverZ baseOrder i 0 c ≡ c
   unfolding climbFrom
@@ -112,13 +118,18 @@ module _ (twoOverZ : Complex) (baseOrder : Float) where
       more p b q m e = omega arith
 
   pub two-moves : (i n : ℕ) (c : Climb) → movesFrom twoOverZ baseOrder i n c ≤ 2
-  unfolding placeOf
-  two-moves i n c = few (placeOf (climbFrom twoOverZ baseOrder i n c .state)) (movesFrom twoOverZ baseOrder i n c) (placeOf (c .state)) (last (climbFrom twoOverZ baseOrder i n c .state)) (moves-counted i n c)
+  two-moves i n c = few (placeOf (climbFrom twoOverZ baseOrder i n c .state)) (movesFrom twoOverZ baseOrder i n c) (placeOf (c .state)) (last-place (climbFrom twoOverZ baseOrder i n c .state)) (moves-counted i n c)
     where
-      last : (s : OverflowState) → placeOf s ≤ 2
-      last NearUnder = lit≤ tt
-      last None = lit≤ tt
-      last NearOver = lit≤ tt
-
       few : (p m q : ℕ) → p ≤ 2 → p ≡ m + q → m ≤ 2
       few p m q h e = omega arith
+
+-- nor in a plain climb and the climb that fills after it, which counts from another order
+pub two-moves-in-all : (twoOverZ : Complex) (baseOrder baseOrder' : Float) (i n j m : ℕ) (c : Climb)
+    → movesFrom twoOverZ baseOrder i n c + movesFrom twoOverZ baseOrder' j m (climbFrom twoOverZ baseOrder i n c) ≤ 2
+two-moves-in-all twoOverZ baseOrder baseOrder' i n j m c =
+    let d = climbFrom twoOverZ baseOrder i n c in
+    let e = climbFrom twoOverZ baseOrder' j m d in
+    few (placeOf (e .state)) (movesFrom twoOverZ baseOrder' j m d) (placeOf (d .state)) (movesFrom twoOverZ baseOrder i n c) (placeOf (c .state)) (last-place (e .state)) (moves-counted twoOverZ baseOrder' j m d) (moves-counted twoOverZ baseOrder i n c)
+  where
+    few : (p m q n r : ℕ) → p ≤ 2 → p ≡ m + q → q ≡ n + r → n + m ≤ 2
+    few p m q n r h e g = omega arith

@@ -1,8 +1,8 @@
--- The cells of a climb's entries: one rung more, and how many they are; the buffer while a climb fills it, up to the full buffer. Assumes nothing.
-use mathlib.Core.Path.{_≡_, refl, sym, ap, _∙_}
+-- The cells of a climb's entries: one rung more, and how many they are; the buffer while a climb fills it, rung by rung or part by part, up to the full buffer. Assumes nothing.
+use mathlib.Core.Path.{_≡_, refl, sym, ap, _∙_, subst}
 use mathlib.Core.List.{List, [], _∷_, _++_, append-assoc, append-nil}
 use Prim.Native.Nat.{ℕ, zero, suc, _+_, _-_, _*_, _≤_, _<_}
-use native.Mathlib.Nat.{sub-eq-zero-of-le}
+use native.Mathlib.Nat.{add-zero, sub-eq-zero-of-le}
 use native.Mathlib.Numerals.{add-one}
 use native.Mathlib.Omega.{arith}
 use lib.ListN.{length, set}
@@ -10,9 +10,12 @@ use lib.Ieee.{Float}
 use Rattle.laws.proofs.Seam.{Seam, seam-start, seam-pair, seam-full}
 use Rattle.complex.specs.declared.number.Complex.{Complex}
 use Rattle.recurrence.specs.Rung.{rungOf}
-use Rattle.recurrence.specs.Climb.{entriesFrom}
+use Rattle.recurrence.specs.Climb.{climbFrom, entriesFrom}
+use Rattle.recurrence.specs.Stretch.{setEntries}
 use Rattle.recurrence.specs.declared.state.Climb.{Climb}
 use Rattle.recurrence.specs.declared.state.Rung.{Rung}
+use Rattle.recurrence.proofs.ClimbFacts.{climb-out}
+use Rattle.recurrence.proofs.StretchFacts.{climb-last}
 
 module _ (twoOverZ : Complex) (baseOrder : Float) where
   pub entries-length : (i n : ℕ) (c : Climb) → length (entriesFrom twoOverZ baseOrder i n c) ≡ n * 2
@@ -65,3 +68,26 @@ module _ (twoOverZ : Complex) (baseOrder : Float) where
   pub filling-end : {all d out : List Float} {to at i : ℕ} {c : Climb} → to ≤ i → length d ≤ at → Filling all to d c i at out → out ≡ all
   filling-end {all} {d} {out} {to} {at} {i} {c} h l f =
       seam-full l (f .seam) ∙ sym (f .whole ∙ ap (λ (t : List Float). f .written ++ t) (entries-end i to c h) ∙ append-nil (f .written))
+
+  -- part of the climb more, with its cells
+  pub filling-as : {all d out out' : List Float} {to at at' i i' : ℕ} {c c' : Climb} → c ≡ c' → i ≡ i' → at ≡ at' → out ≡ out' → Filling all to d c i at out → Filling all to d c' i' at' out'
+  filling-as {all} {d} {out} {out'} {to} {at} {at'} {i} {i'} {c} {c'} e g h o f =
+      subst (Filling all to d c' i' at') o (subst (λ (k : Climb). Filling all to d k i' at' out) e (subst (λ (n : ℕ). Filling all to d c n at' out) g (subst (λ (n : ℕ). Filling all to d c i n out) h f)))
+
+  pub filling-part : {all d out : List Float} {to at i : ℕ} {c : Climb} (count : ℕ) → i + count ≤ to → at + count * 2 ≤ length d → Filling all to d c i at out
+      → Filling all to d (climbFrom twoOverZ baseOrder i count c) (i + count) (at + count * 2) (setEntries twoOverZ baseOrder i count c at out)
+  unfolding setEntries
+  filling-part {all} {d} {out} {to} {at} {i} {c} zero h l f = filling-as (sym (climb-out twoOverZ baseOrder i c)) (sym (add-zero i)) (none at) refl f
+    where
+      none : (n : ℕ) → n ≡ n + 0 * 2
+      none n = omega arith
+  filling-part {all} {d} {out} {to} {at} {i} {c} (suc count) h l f =
+      let r = rungOf twoOverZ baseOrder (i + count) (climbFrom twoOverZ baseOrder i count c) in
+      filling-as (sym (climb-last twoOverZ baseOrder i count c) ∙ ap (λ (n : ℕ). climbFrom twoOverZ baseOrder i n c) (add-one count)) (one i count) (two at count) refl
+      (filling-step r refl (omega arith) (omega arith) (filling-part count (omega arith) (omega arith) f))
+    where
+      one : (m n : ℕ) → m + n + 1 ≡ m + suc n
+      one m n = omega arith
+
+      two : (m n : ℕ) → m + n * 2 + 2 ≡ m + suc n * 2
+      two m n = omega arith

@@ -2,6 +2,8 @@
 pub mod ClimbFacts
 pub mod FillFacts
 pub mod FirstFacts
+pub mod LimitFacts
 pub mod Magnitudes
 pub mod RungFacts
 pub mod StateFacts
+pub mod StretchFacts

@@ -3,4 +3,5 @@ pub mod Climb
 pub mod First
 pub mod Rung
 pub mod State
+pub mod Stretch
 pub mod Trial

@@ -1,6 +1,6 @@
 -- The three states of scale of a climb, and what each fixes. Definitions only.
 use Prim.Native.Nat.{ℕ}
-use lib.Ieee.{Float, binary64, ofBits, div}
+use lib.Ieee.{Float, binary64, ofBits, mul, div}
 use Rattle.machine.specs.Constants.{tolerance, inverseTolerance, absoluteApproximationLimit}
 use Rattle.recurrence.specs.declared.state.OverflowState.{OverflowState}
 use Rattle.recurrence.specs.declared.state.OverflowState.the-variants.{NearUnder, None, NearOver}
@@ -29,6 +29,12 @@ unfoldable pub boundaryOf : OverflowState → Float
 boundaryOf NearUnder = absoluteApproximationLimit
 boundaryOf None = div binary64 one absoluteApproximationLimit
 boundaryOf NearOver = largest
+
+-- A on the scale of near underflow, 1/A, infinity
+unfoldable pub limitOf : OverflowState → Float
+limitOf NearUnder = mul binary64 absoluteApproximationLimit inverseTolerance
+limitOf None = div binary64 one absoluteApproximationLimit
+limitOf NearOver = div binary64 one (ofBits binary64 0)
 
 -- one place on
 unfoldable pub movedOn : OverflowState → OverflowState

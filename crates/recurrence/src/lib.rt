@@ -3,6 +3,7 @@
 pub mod climb;
 pub mod fill;
 pub mod first;
+pub mod held;
 pub mod rung;
 pub mod state;
 pub mod trial;

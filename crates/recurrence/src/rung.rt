@@ -1,10 +1,11 @@
 // One rung of a climb: the next order's value from two neighbours, its factor formed afresh, and the move to the next state of scale
 // where the entry off the scale passes the boundary. From src/amos/recurrence.rs, run_recurrence_core, and limits.rs, scale_recurrence.
-// Promised: rungOf of specs/Rung.antt. The boundary is tested by four comparisons with no magnitudes, which keeps the loop scalar.
+// Promised: rungOf of specs/Rung.antt. The boundary is tested by four comparisons with no magnitudes.
 ghost use mathlib.Core.Path.{_≡_};
 ghost use Prim.Native.Nat.{_+_, _<_, _^_};
 ghost use lib.Dec.{T};
 ghost use lib.Ieee.{binary64, ofBits, lt};
+ghost use Rattle.complex.specs.Lost.{magnitudeOf};
 ghost use Rattle.recurrence.specs.Rung.{factorOf, nextOf, exceeds, passes, movedClimb, rungOf};
 use crate::state::Climb;
 use crate::state::OverflowState;
@@ -15,20 +16,25 @@ use crate::state::reciprocal;
 use crate::state::scale;
 use complex::number::Complex;
 
+// a magnitude above b, by two comparisons of the value itself
+pub fn outside(b: f64, x: f64) -> bool
+    requires { ⌜ T (lt (ofBits binary64 0) b) ⌝ }
+    ensures { λ r. ⌜ r ≡ lt b (magnitudeOf x) ⌝ }
+{
+    if x > b {
+        return true;
+    }
+    x < -b
+}
+
 fn beyond(b: f64, w: Complex) -> bool
     requires { ⌜ T (lt (ofBits binary64 0) b) ⌝ }
     ensures { λ r. ⌜ r ≡ exceeds b w ⌝ }
 {
-    if w.re > b {
+    if outside(b, w.re) {
         return true;
     }
-    if w.re < -b {
-        return true;
-    }
-    if w.im > b {
-        return true;
-    }
-    w.im < -b
+    outside(b, w.im)
 }
 
 fn leaves(state: OverflowState, entry: Complex) -> bool

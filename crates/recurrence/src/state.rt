@@ -1,8 +1,8 @@
 // The three states of scale of a climb: values near underflow are kept 2^52 times too large, values near overflow as much too small.
 // From src/amos/limits.rs, OverflowState; the words are those of docs/SCOPE.md, The climb.
-// Promised: each state's scale, reciprocal and boundary are those of specs/State.antt.
+// Promised: each state's scale, reciprocal, boundary and limit are those of specs/State.antt.
 ghost use mathlib.Core.Path.{_≡_};
-ghost use Rattle.recurrence.specs.State.{scaleOf, reciprocalOf, boundaryOf, movedOn};
+ghost use Rattle.recurrence.specs.State.{scaleOf, reciprocalOf, boundaryOf, limitOf, movedOn};
 use complex::number::Complex;
 use machine::constants::Machine;
 
@@ -60,6 +60,18 @@ pub fn boundary(state: OverflowState) -> f64
     }
 }
 
+// a value kept in this state ends it only where a part lies above this; in the last state none does
+pub fn limit(state: OverflowState) -> f64
+    ensures { λ r. ⌜ r ≡ limitOf state ⌝ }
+{
+    match state {
+        OverflowState::NearUnder => Machine::ABSOLUTE_APPROXIMATION_LIMIT
+            * Machine::INVERSE_TOLERANCE,
+        OverflowState::None => 1.0 / Machine::ABSOLUTE_APPROXIMATION_LIMIT,
+        OverflowState::NearOver => 1.0 / 0.0,
+    }
+}
+
 // one place on; the last has no other behind it
 pub fn moved_on(state: OverflowState) -> OverflowState
     ensures { λ r. ⌜ r ≡ movedOn state ⌝ }
@@ -68,5 +80,17 @@ pub fn moved_on(state: OverflowState) -> OverflowState
         OverflowState::NearUnder => OverflowState::None,
         OverflowState::None => OverflowState::NearOver,
         OverflowState::NearOver => OverflowState::NearOver,
+    }
+}
+
+// the climb at two neighbouring values
+pub fn reached(older: Complex, newer: Complex, state: OverflowState, rungs: u32) -> Climb
+    ensures { λ r. ⌜ r ≡ record { older = older; newer = newer; state = state; rungs = rungs } ⌝ }
+{
+    Climb {
+        older: older,
+        newer: newer,
+        state: state,
+        rungs: rungs,
     }
 }

@@ -19,7 +19,7 @@ pub fn zero_pair() -> Complex
     Complex { re: 0.0, im: 0.0 }
 }
 
-fn failed() -> Trial
+pub fn failed() -> Trial
     ensures { λ r. ⌜ r ≡ failedTrial ⌝ }
 {
     Trial {

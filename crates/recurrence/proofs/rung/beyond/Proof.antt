@@ -1,20 +1,23 @@
--- `recurrence::rung::beyond` meets its contract: four comparisons for two magnitudes. Assumes nothing.
+-- `recurrence::rung::beyond` meets its contract: each part's magnitude is tested. Assumes nothing.
+use borrow.Author.Needs.{needs}
 use mathlib.Core.Path.{sym, _∙_}
-use Rattle.recurrence.proofs.Magnitudes.{exceeds-by-four}
+use Rattle.recurrence.specs.Rung.{exceeds}
 use Rattle.recurrence.proofs.rung.beyond.Statement.{statement}
 use Rattle.recurrence.proofs.rung.beyond.Tie as tie
 
+outside-requires : tie.Need-outside-requires
+outside-requires c κs = search needs
+
 returns : tie.Need-returns
-returns c = let d = c .before .before in sym (exceeds-by-four (d .args .b) (d .args .w) (d .pre) ∙ rw (c .if1 .taken))
+unfolding exceeds
+returns c = rw (sym (c .before .outside .ensures) ∙ c .if1 .taken)
+
+outside-requires-2 : tie.Need-outside-requires-2
+outside-requires-2 c κs = search needs
 
 returns-2 : tie.Need-returns-2
-returns-2 c = let d = c .before .before .before .before in sym (exceeds-by-four (d .args .b) (d .args .w) (d .pre) ∙ rw (c .before .before .if1 .left, c .if2 .taken))
-
-returns-3 : tie.Need-returns-3
-returns-3 c = let d = c .before .before .before .before .before .before in sym (exceeds-by-four (d .args .b) (d .args .w) (d .pre) ∙ rw (c .before .before .before .before .if1 .left, c .before .before .if2 .left, c .if3 .taken))
-
-returns-4 : tie.Need-returns-4
-returns-4 c = let d = c .before .before .before .before .before .before .before in sym (exceeds-by-four (d .args .b) (d .args .w) (d .pre) ∙ rw (c .before .before .before .before .before .if1 .left, c .before .before .before .if2 .left, c .before .if3 .left))
+unfolding exceeds
+returns-2 c = rw (sym (c .before .before .outside .ensures) ∙ c .before .if1 .left, c .outside2 .ensures)
 
 pub beyond-spec : {M : Type 1} → statement M
-beyond-spec = tie.close (tie.spec returns returns-2 returns-3 returns-4)
+beyond-spec = tie.close (tie.spec outside-requires returns outside-requires-2 returns-2)

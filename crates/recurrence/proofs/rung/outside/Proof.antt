@@ -1,0 +1,14 @@
+-- `recurrence::rung::outside` meets its contract: two comparisons for a magnitude. Assumes nothing.
+use mathlib.Core.Path.{sym, _∙_}
+use Rattle.recurrence.proofs.Magnitudes.{above-magnitude}
+use Rattle.recurrence.proofs.rung.outside.Statement.{statement}
+use Rattle.recurrence.proofs.rung.outside.Tie as tie
+
+returns : tie.Need-returns
+returns c = let d = c .before in sym (above-magnitude (d .args .b) (d .args .x) (d .pre) ∙ rw (c .if1 .taken))
+
+returns-2 : tie.Need-returns-2
+returns-2 c = let d = c .before in sym (above-magnitude (d .args .b) (d .args .x) (d .pre) ∙ rw (c .if1 .left))
+
+pub outside-spec : {M : Type 1} → statement M
+outside-spec = tie.close (tie.spec returns returns-2)

@@ -1,30 +1,26 @@
--- Steps that are left, one by one; and each backward step counts itself, so that their number is the start. Assumes nothing.
+-- States so many steps from the first; and each backward step counts itself, so that their number is the start. Assumes nothing.
 use mathlib.Core.Path.{_≡_, refl, sym, ap, _∙_}
-use Prim.Native.Nat.{ℕ, zero, suc, _+_, _-_, _≤_, _<_}
-use native.Mathlib.Nat.{sub-eq-zero-of-le}
+use Prim.Native.Nat.{ℕ, zero, suc, _+_, _-_, _≤_}
 use native.Mathlib.Numerals.{add-one}
 use native.Mathlib.Omega.{arith}
 use lib.Ieee.{Float}
 use Rattle.laws.specs.Iterate.{iterate}
-use Rattle.laws.proofs.Iterate.{iterate-zero, iterate-suc, iterate-shift, iterate-add}
+use Rattle.laws.proofs.Iterate.{iterate-zero, iterate-suc, iterate-next, iterate-add}
 use Rattle.complex.specs.declared.number.Complex.{Complex}
 use Rattle.miller.specs.declared.backward.RealSteps.{RealSteps}
 use Rattle.miller.specs.declared.backward.ComplexSteps.{ComplexSteps}
 use Rattle.miller.specs.Backward.{realStep, realFirst, realSteps, complexStep, complexFirst, complexSteps}
 
--- ---- of a steps in all, k are taken: one more, none left, and the rest after the k
-module _ {A : Type 0} (step : A → A) (a k : ℕ) where
-  pub rest-next : (s : A) → k < a → iterate (a - k) step s ≡ iterate (a - (k + 1)) step (step s)
-  rest-next s h = ap (λ (n : ℕ). iterate n step s) (one a k h) ∙ iterate-suc (a - (k + 1)) step s ∙ iterate-shift (a - (k + 1)) step s
-    where
-      one : (a k : ℕ) → k < a → a - k ≡ suc (a - (k + 1))
-      one a k h = omega arith
+-- ---- a state that is so many steps from the first: at none, after one more, and with the last one to come
+module _ {A : Type 0} (step : A → A) (first : A) where
+  pub at-none : (s : A) (n : ℕ) → s ≡ first → n ≡ 0 → s ≡ iterate n step first
+  at-none s n e z = e ∙ sym (iterate-zero step first) ∙ ap (λ (n : ℕ). iterate n step first) (sym z)
 
-  pub rest-none : (s : A) → a ≤ k → iterate (a - k) step s ≡ s
-  rest-none s h = ap (λ (n : ℕ). iterate n step s) (sub-eq-zero-of-le h) ∙ iterate-zero step s
+  pub one-more : (s r : A) (n m : ℕ) → s ≡ iterate n step first → r ≡ step s → m ≡ n + 1 → r ≡ iterate m step first
+  one-more s r n m i e h = e ∙ ap step i ∙ sym (iterate-next n step first) ∙ ap (λ (n : ℕ). iterate n step first) (sym h)
 
-  pub rest-whole : (s first : A) → s ≡ iterate k step first → k ≤ a → iterate (a - k) step s ≡ iterate a step first
-  rest-whole s first e h = ap (iterate (a - k) step) e ∙ sym (iterate-add (a - k) k step first) ∙ ap (λ (n : ℕ). iterate n step first) (all a k h)
+  pub rest-whole : (s : A) (a k : ℕ) → s ≡ iterate k step first → k ≤ a → iterate (a - k) step s ≡ iterate a step first
+  rest-whole s a k e h = ap (iterate (a - k) step) e ∙ sym (iterate-add (a - k) k step first) ∙ ap (λ (n : ℕ). iterate n step first) (all a k h)
     where
       all : (a k : ℕ) → k ≤ a → a - k + k ≡ a
       all a k h = omega arith

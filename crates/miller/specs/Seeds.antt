@@ -39,12 +39,14 @@ realSeeds x order coefficient alone start =
     record { first = onRealLine first; second = onRealLine (realSecond alone x (order .fraction) s first); backward = s .steps }
 
 -- w over v is the product of w / |v| with the conjugate of v over |v|
-unfoldable pub complexSecond : Bool → Complex → Float → ComplexSteps → Complex → Complex
-complexSecond alone z fraction s first =
+unfoldable pub complexRatio : Bool → Complex → Float → ComplexSteps → Complex
+complexRatio alone z fraction s =
     let length = modulusOf (s .newer) in
     let ratio = productOf (overReal (s .older) length) (overReal (conjugateOf (s .newer)) length) in
-    cond alone (onRealLine (ofBits binary64 0))
-    (productOf (plusReal (quotientOf (plusReal (plusReal (oppositeOf ratio) fraction) half) z) one) first)
+    cond alone (onRealLine (ofBits binary64 0)) (plusReal (quotientOf (plusReal (plusReal (oppositeOf ratio) fraction) half) z) one)
+
+unfoldable pub complexSecond : Bool → Complex → Complex → Complex
+complexSecond alone ratio first = cond alone (onRealLine (ofBits binary64 0)) (productOf ratio first)
 
 unfoldable pub complexFirstSeed : ComplexSteps → Complex → Complex
 complexFirstSeed s coefficient =
@@ -55,7 +57,7 @@ unfoldable pub complexSeeds : Complex → Order → Complex → Bool → ℕ →
 complexSeeds z order coefficient alone start =
     let s = complexSteps z (order .distance) start in
     let first = complexFirstSeed s coefficient in
-    record { first = first; second = complexSecond alone z (order .fraction) s first; backward = s .steps }
+    record { first = first; second = complexSecond alone (complexRatio alone z (order .fraction) s) first; backward = s .steps }
 
 -- the real path is the real part's
 unfoldable pub seedsFrom : Point → Order → Complex → Bool → ℕ → Miller

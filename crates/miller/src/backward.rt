@@ -3,7 +3,7 @@
 ghost use mathlib.Core.Path.{_≡_};
 ghost use Prim.Native.Nat.{_+_, _-_, _≤_, _<_, _^_};
 ghost use Rattle.laws.specs.Iterate.{iterate};
-ghost use Rattle.miller.specs.Backward.{realStep, realSteps, complexNext, complexStep, complexSteps};
+ghost use Rattle.miller.specs.Backward.{realStep, realSteps, complexNext, complexFirst, complexStep, complexSteps};
 use complex::number::Complex;
 use machine::constants::Machine;
 
@@ -80,11 +80,28 @@ fn complex_step(z: Complex, distance: f64, s: ComplexSteps) -> ComplexSteps
     }
 }
 
-fn complex_rest(z: Complex, distance: f64, start: u32, begun: ComplexSteps) -> ComplexSteps
-    requires { ⌜ begun .steps ≤ start ⌝ }
-    ensures { λ r. ⌜ r ≡ iterate (start - begun .steps) (complexStep z distance) begun ⌝ }
+fn complex_first(start: u32) -> ComplexSteps
+    ensures { λ r. ⌜ r ≡ complexFirst start ⌝ }
 {
-    let mut s = begun;
+    ComplexSteps {
+        older: Complex { re: 0.0, im: 0.0 },
+        newer: Complex {
+            re: Machine::TOLERANCE,
+            im: 0.0,
+        },
+        sum: Complex {
+            re: Machine::TOLERANCE,
+            im: 0.0,
+        },
+        k: start as f64,
+        steps: 0,
+    }
+}
+
+fn plain_steps(z: Complex, distance: f64, start: u32) -> ComplexSteps
+    ensures { λ r. ⌜ r ≡ complexSteps z distance start ⌝ }
+{
+    let mut s = complex_first(start);
     while s.steps < start {
         s = complex_step(z, distance, s);
     }
@@ -125,29 +142,37 @@ fn with_real_part(z: Complex, distance: f64, s: ComplexSteps, re: f64) -> Comple
     }
 }
 
-// The test of the real part keeps the compiler from pairing the two parts, which would put shuffles between one step and the next.
+fn last_step(z: Complex, distance: f64, start: u32, s: ComplexSteps) -> ComplexSteps
+    requires { ⌜ (s .steps ≤ start) × (start ≤ s .steps + 1) ⌝ }
+    ensures { λ r. ⌜ r ≡ iterate (start - s .steps) (complexStep z distance) s ⌝ }
+{
+    if s.steps < start {
+        return complex_step(z, distance, s);
+    }
+    s
+}
+
+// Two steps a turn, so that no value is moved from one place to another. The tests between a real and an imaginary part keep the compiler from pairing
+// the two, which would put shuffles between one step and the next; what they find is no number in the end, whichever way it is reached.
 pub fn complex_steps(z: Complex, distance: f64, start: u32) -> ComplexSteps
     ensures { λ r. ⌜ r ≡ complexSteps z distance start ⌝ }
 {
-    let mut s = ComplexSteps {
-        older: Complex { re: 0.0, im: 0.0 },
-        newer: Complex {
-            re: Machine::TOLERANCE,
-            im: 0.0,
-        },
-        sum: Complex {
-            re: Machine::TOLERANCE,
-            im: 0.0,
-        },
-        k: start as f64,
-        steps: 0,
-    };
-    while s.steps < start {
+    let mut s = complex_first(start);
+    while start - s.steps > 1 {
         let re = real_part(z, distance, s);
-        if re != re {
-            return complex_rest(z, distance, start, s);
+        let sum = s.sum;
+        let sum_re = sum.re + re;
+        if sum_re != sum_re {
+            return plain_steps(z, distance, start);
         }
-        s = with_real_part(z, distance, s, re);
+        let t = with_real_part(z, distance, s, re);
+        let next_re = real_part(z, distance, t);
+        let next_sum = t.sum;
+        let next_sum_re = next_sum.re + next_re;
+        if next_sum_re != next_sum_re {
+            return plain_steps(z, distance, start);
+        }
+        s = with_real_part(z, distance, t, next_re);
     }
-    s
+    last_step(z, distance, start, s)
 }

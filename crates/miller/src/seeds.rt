@@ -1,7 +1,7 @@
 // The two seeds K(fraction) and K(fraction + 1) from Miller's backward steps, times a coefficient: the last value over the sum, and the ratio of the last two.
 // From src/amos/right_half_plane.rs, compute_large_z_miller_seeds. Promised for every argument: specs/Seeds.antt; refusal 6 exactly where the search finds no start.
 ghost use mathlib.Core.Path.{_≡_};
-ghost use Rattle.miller.specs.Seeds.{realSecond, realSeeds, complexSecond, complexSeeds, seedsFrom, seedsOf};
+ghost use Rattle.miller.specs.Seeds.{realSecond, realSeeds, complexRatio, complexSecond, complexSeeds, seedsFrom, seedsAt};
 use crate::backward::ComplexSteps;
 use crate::backward::RealSteps;
 use crate::backward::complex_steps;
@@ -10,7 +10,6 @@ use crate::point::Order;
 use crate::point::Point;
 use crate::point::is_real;
 use crate::search::Start;
-use crate::search::search;
 use crate::whole::magnitude;
 use complex::number::Complex;
 use refusal::refusal::Refusal;
@@ -55,14 +54,9 @@ fn real_seeds(x: f64, order: Order, coefficient: f64, alone: bool, start: u32) -
     }
 }
 
-fn complex_second(
-    alone: bool,
-    z: Complex,
-    fraction: f64,
-    s: ComplexSteps,
-    first: Complex,
-) -> Complex
-    ensures { λ r. ⌜ r ≡ complexSecond alone z fraction s first ⌝ }
+// What the first seed is multiplied with for the second.
+fn complex_ratio(alone: bool, z: Complex, fraction: f64, s: ComplexSteps) -> Complex
+    ensures { λ r. ⌜ r ≡ complexRatio alone z fraction s ⌝ }
 {
     if alone {
         return Complex { re: 0.0, im: 0.0 };
@@ -74,19 +68,30 @@ fn complex_second(
         .over_real(length)
         .product(newer.conjugate().over_real(length));
     let shifted = ratio.opposite().plus_real(fraction).plus_real(0.5);
-    shifted.quotient(z).plus_real(1.0).product(first)
+    shifted.quotient(z).plus_real(1.0)
 }
 
+fn complex_second(alone: bool, ratio: Complex, first: Complex) -> Complex
+    ensures { λ r. ⌜ r ≡ complexSecond alone ratio first ⌝ }
+{
+    if alone {
+        return Complex { re: 0.0, im: 0.0 };
+    }
+    ratio.product(first)
+}
+
+// The ratio comes first: the second seed waits for it longer than for the first seed.
 fn complex_seeds(z: Complex, order: Order, coefficient: Complex, alone: bool, start: u32) -> Miller
     ensures { λ r. ⌜ r ≡ complexSeeds z order coefficient alone start ⌝ }
 {
     let s = complex_steps(z, order.distance, start);
     let newer = s.newer;
     let sum = s.sum;
+    let ratio = complex_ratio(alone, z, order.fraction, s);
     let length = sum.modulus();
     let turned = sum.conjugate().over_real(length);
     let first = newer.over_real(length).product(coefficient.product(turned));
-    let second = complex_second(alone, z, order.fraction, s, first);
+    let second = complex_second(alone, ratio, first);
     Miller {
         first,
         second,
@@ -104,10 +109,16 @@ fn seeds_from(point: Point, order: Order, coefficient: Complex, alone: bool, sta
     complex_seeds(z, order, coefficient, alone, start)
 }
 
-pub fn seeds(point: Point, order: Order, coefficient: Complex, alone: bool) -> MillerSeeds
-    ensures { λ r. ⌜ r ≡ seedsOf point order coefficient alone ⌝ }
+// From the start that `search` finds for the point and the order. The coefficient does not wait for it: it is worked out between the two.
+pub fn seeds_at(
+    point: Point,
+    order: Order,
+    coefficient: Complex,
+    alone: bool,
+    found: Start,
+) -> MillerSeeds
+    ensures { λ r. ⌜ r ≡ seedsAt point order coefficient alone found ⌝ }
 {
-    let found = search(point, order);
     match found {
         Start::At(start) => MillerSeeds::Pair(seeds_from(point, order, coefficient, alone, start)),
         Start::Unmet => MillerSeeds::Refused(Refusal::Start),

@@ -5,3 +5,4 @@ pub mod GammasAtZero
 pub mod Magnitudes
 pub mod TemmeBound
 pub mod Zeros
+pub mod WholeShares

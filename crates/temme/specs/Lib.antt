@@ -3,3 +3,4 @@ pub mod Difference
 pub mod Gammas
 pub mod Sum
 pub mod Seeds
+pub mod Shares

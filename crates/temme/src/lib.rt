@@ -4,4 +4,5 @@ pub mod difference;
 pub mod gammas;
 pub mod hyperbolic;
 pub mod seeds;
+pub mod shares;
 pub mod sum;

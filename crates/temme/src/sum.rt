@@ -4,6 +4,7 @@
 ghost use mathlib.Core.Path.{_≡_};
 ghost use Prim.Native.Nat.{_<_};
 ghost use Rattle.temme.specs.Sum.{nextTerms, sumOf};
+use crate::shares::shares;
 use complex::number::Complex;
 use machine::constants::Machine;
 
@@ -33,10 +34,11 @@ fn next(g: Ground, s: Terms) -> Terms
 {
     let terms = s.terms + 1;
     let k = terms as f64;
-    let recip_k = 1.0 / k;
-    let recip_denom = 1.0 / (k * k - g.fraction_square);
-    let recip_neg = 1.0 / (k - g.fraction);
-    let recip_pos = 1.0 / (k + g.fraction);
+    let share = shares(g.fraction, g.fraction_square, terms);
+    let recip_k = share.of_k;
+    let recip_denom = share.of_denominator;
+    let recip_neg = share.of_lower;
+    let recip_pos = share.of_upper;
     let last_coeff = s.temme_coeff;
     let last_neg = s.neg_order_term;
     let last_pos = s.pos_order_term;

@@ -1,14 +1,12 @@
 -- `miller::backward::complex_steps` meets its contract. The invariant: the state is that of as many steps as it counts. Assumes nothing.
-use mathlib.Core.Path.{_≡_, refl, sym, ap, _∙_}
-use Prim.Native.Nat.{ℕ, _+_, _-_, _≤_}
+use mathlib.Core.Path.{_≡_, ap, _∙_}
+use Prim.Native.Nat.{_+_, _-_, _≤_}
 use native.Mathlib.Omega.{arith}
 use borrow.Author.Needs.{needs}
 use Rattle.laws.specs.Iterate.{iterate}
-use Rattle.laws.proofs.Iterate.{iterate-next}
-use Rattle.machine.specs.Constants.{tolerance}
 use Rattle.miller.specs.declared.backward.ComplexSteps.{ComplexSteps}
-use Rattle.miller.specs.Backward.{onRealLine, complexFirst, complexStep, complexSteps}
-use Rattle.miller.proofs.BackwardFacts.{rest-whole}
+use Rattle.miller.specs.Backward.{complexFirst, complexStep, complexSteps}
+use Rattle.miller.proofs.BackwardFacts.{at-none, one-more, rest-whole}
 use Rattle.miller.proofs.backward.complex_steps.Statement.{statement}
 use Rattle.miller.proofs.backward.complex_steps.Tie as tie
 
@@ -18,51 +16,71 @@ Inv-loop z distance start s₀ s = (s .steps ≤ start) × (s ≡ iterate (s .st
 abbrev μ-loop : tie.MeasureT-loop
 μ-loop z distance start s₀ s = start - s .steps
 
-int-to-float-t9 : tie.Need-int-to-float-t9 Inv-loop μ-loop
-int-to-float-t9 c = search needs
+complex-first-requires : tie.Need-complex-first-requires Inv-loop μ-loop
+complex-first-requires c κs = search needs
 
 loop-holds : tie.Need-loop-holds Inv-loop μ-loop
-unfolding iterate complexFirst onRealLine tolerance
-loop-holds c = (omega arith, refl)
+unfolding complexFirst
+loop-holds c =
+    let e : c .complex-first .result .steps ≡ 0 = ap (λ (s : ComplexSteps). s .steps) (c .complex-first .ensures) in
+    (omega arith, at-none _ _ _ _ (c .complex-first .ensures) e)
+
+sub-if1 : tie.Need-sub-if1 Inv-loop μ-loop
+sub-if1 c = omega arith
 
 real-part-requires : tie.Need-real-part-requires Inv-loop μ-loop
 real-part-requires c κs = search needs
 
-complex-rest-requires : tie.Need-complex-rest-requires Inv-loop μ-loop
-complex-rest-requires c κs = omega arith
+plain-steps-requires : tie.Need-plain-steps-requires Inv-loop μ-loop
+plain-steps-requires c κs = search needs
 
 returns : tie.Need-returns Inv-loop μ-loop
-unfolding complexSteps
-returns c =
-    let args = c .before .before .before .before .before .before .before .args in
-    let loop = c .before .before .before .before .before .loop in
-    c .complex-rest .ensures ∙ rest-whole (complexStep (args .z) (args .distance)) (args .start) (loop .s .steps) (loop .s) (complexFirst (args .start)) (loop .inv .1) (loop .inv .0)
+returns c = c .plain-steps .ensures
 
 with-real-part-requires : tie.Need-with-real-part-requires Inv-loop μ-loop
-with-real-part-requires c κs = (omega arith, c .before .real-part .ensures)
+with-real-part-requires c κs = (omega arith, c .before .before .before .real-part .ensures)
+
+real-part-requires-2 : tie.Need-real-part-requires-2 Inv-loop μ-loop
+real-part-requires-2 c κs = search needs
+
+plain-steps-requires-2 : tie.Need-plain-steps-requires-2 Inv-loop μ-loop
+plain-steps-requires-2 c κs = search needs
+
+returns-2 : tie.Need-returns-2 Inv-loop μ-loop
+returns-2 c = c .plain-steps2 .ensures
+
+with-real-part-requires-2 : tie.Need-with-real-part-requires-2 Inv-loop μ-loop
+unfolding complexStep
+with-real-part-requires-2 c κs =
+    let t = c .before .before .before .before .with-real-part in
+    let e : t .result .steps ≡ c .before .before .before .before .before .before .before .before .before .before .before .loop .s .steps + 1 = ap (λ (s : ComplexSteps). s .steps) (t .ensures) in
+    (omega (arith, c .before .before .before .before .before .before .before .before .before .if1 .taken, c .before .before .before .before .before .before .before .before .before .before .before .before .before .fits .start), c .before .before .before .real-part2 .ensures)
 
 loop-less : tie.Need-loop-less Inv-loop μ-loop
 unfolding complexStep
-loop-less c = let e : c .with-real-part .result .steps ≡ c .before .before .before .before .before .loop .s .steps + 1 = ap (λ (s : ComplexSteps). s .steps) (c .with-real-part .ensures) in omega arith
+loop-less c =
+    let t = c .before .before .before .before .before .with-real-part in
+    let u = c .with-real-part2 in
+    let e : t .result .steps ≡ c .before .before .before .before .before .before .before .before .before .before .before .before .loop .s .steps + 1 = ap (λ (s : ComplexSteps). s .steps) (t .ensures) in
+    let f : u .result .steps ≡ t .result .steps + 1 = ap (λ (s : ComplexSteps). s .steps) (u .ensures) in
+    omega (arith, c .before .before .before .before .before .before .before .before .before .before .if1 .taken)
 
 loop-again : tie.Need-loop-again Inv-loop μ-loop
 unfolding complexStep
 loop-again c =
-    let args = c .before .before .before .before .before .before .before .args in
-    let loop = c .before .before .before .before .before .loop in
-    let s = loop .s in
-    let step = complexStep (args .z) (args .distance) in
-    let first = complexFirst (args .start) in
-    let e : c .with-real-part .result .steps ≡ s .steps + 1 = ap (λ (s : ComplexSteps). s .steps) (c .with-real-part .ensures) in
-    let n : c .with-real-part .result ≡ iterate (s .steps + 1) step first = c .with-real-part .ensures ∙ ap step (loop .inv .1) ∙ sym (iterate-next (s .steps) step first) in
-    (omega arith, n ∙ ap (λ (n : ℕ). iterate n step first) (sym e))
+    let loop = c .before .before .before .before .before .before .before .before .before .before .before .before .loop in
+    let t = c .before .before .before .before .before .with-real-part in
+    let u = c .with-real-part2 in
+    let e : t .result .steps ≡ loop .s .steps + 1 = ap (λ (s : ComplexSteps). s .steps) (t .ensures) in
+    let f : u .result .steps ≡ t .result .steps + 1 = ap (λ (s : ComplexSteps). s .steps) (u .ensures) in
+    (omega (arith, c .before .before .before .before .before .before .before .before .before .before .if1 .taken), one-more _ _ _ _ _ _ (one-more _ _ _ _ _ _ (loop .inv .1) (t .ensures) e) (u .ensures) f)
 
-returns-2 : tie.Need-returns-2 Inv-loop μ-loop
+last-step-requires : tie.Need-last-step-requires Inv-loop μ-loop
+last-step-requires c κs = (c .before .before .loop .inv .0, omega arith)
+
+returns-3 : tie.Need-returns-3 Inv-loop μ-loop
 unfolding complexSteps
-returns-2 c =
-    let args = c .before .before .before .before .args in
-    let e : c .before .before .loop .s .steps ≡ args .start = omega arith in
-    c .before .before .loop .inv .1 ∙ ap (λ (n : ℕ). iterate n (complexStep (args .z) (args .distance)) (complexFirst (args .start))) e
+returns-3 c = let loop = c .before .before .before .loop in c .last-step .ensures ∙ rest-whole _ _ _ _ _ (loop .inv .1) (loop .inv .0)
 
 pub complex-steps-spec : {M : Type 1} → statement M
 complex-steps-spec =
@@ -70,12 +88,18 @@ complex-steps-spec =
     (tie.spec
     Inv-loop
     μ-loop
-    int-to-float-t9
+    complex-first-requires
     loop-holds
+    sub-if1
     real-part-requires
-    complex-rest-requires
+    plain-steps-requires
     returns
     with-real-part-requires
+    real-part-requires-2
+    plain-steps-requires-2
+    returns-2
+    with-real-part-requires-2
     loop-less
     loop-again
-    returns-2)
+    last-step-requires
+    returns-3)

@@ -7,6 +7,9 @@ use Rattle.miller.proofs.seeds.complex_seeds.Tie as tie
 complex-steps-requires : tie.Need-complex-steps-requires
 complex-steps-requires c κs = search needs
 
+complex-ratio-requires : tie.Need-complex-ratio-requires
+complex-ratio-requires c κs = search needs
+
 modulus-requires : tie.Need-modulus-requires
 modulus-requires c κs = search needs
 
@@ -38,7 +41,8 @@ returns c = simp (
   c .before .before .before .before .over-real .ensures,
   c .before .before .before .before .before .conjugate .ensures,
   c .before .before .before .before .before .before .modulus .ensures,
-  c .before .before .before .before .before .before .before .before .before .complex-steps .ensures,
+  c .before .before .before .before .before .before .before .complex-ratio .ensures,
+  c .before .before .before .before .before .before .before .before .before .before .complex-steps .ensures,
 )
 
 pub complex-seeds-spec : {M : Type 1} → statement M
@@ -46,6 +50,7 @@ complex-seeds-spec =
     tie.close
     (tie.spec
     complex-steps-requires
+    complex-ratio-requires
     modulus-requires
     conjugate-requires
     over-real-requires

@@ -1,4 +1,6 @@
 -- `temme::sum::next` meets its contract. Assumes nothing.
+use native.Mathlib.Omega.{arith}
+use Rattle.temme.specs.Shares.{shareOf, sharesOf}
 use Rattle.temme.specs.Sum.{nextMagnitude, nextTerms}
 use borrow.Author.Needs.{needs}
 use Rattle.temme.proofs.sum.next.Statement.{statement}
@@ -9,6 +11,9 @@ add-terms c = search needs
 
 int-to-float-k : tie.Need-int-to-float-k
 int-to-float-k c = search needs
+
+shares-requires : tie.Need-shares-requires
+shares-requires c κs = omega arith
 
 times-real-requires : tie.Need-times-real-requires
 times-real-requires c κs = search needs
@@ -53,7 +58,7 @@ plus-requires-4 : tie.Need-plus-requires-4
 plus-requires-4 c κs = search needs
 
 returns : tie.Need-returns
-unfolding nextTerms nextMagnitude
+unfolding nextTerms nextMagnitude sharesOf shareOf
 returns c =
     let d = c .before .before .before .before .before .before .before .before in
     simp (
@@ -71,6 +76,7 @@ returns c =
       d .before .before .before .before .before .plus2 .ensures,
       d .before .before .before .before .before .before .plus .ensures,
       d .before .before .before .before .before .before .before .times-real .ensures,
+      d .before .before .before .before .before .before .before .before .before .before .before .before .before .before .before .shares .ensures,
     )
 
 pub next-spec : {M : Type 1} → statement M
@@ -79,6 +85,7 @@ next-spec =
     (tie.spec
     add-terms
     int-to-float-k
+    shares-requires
     times-real-requires
     plus-requires
     plus-requires-2

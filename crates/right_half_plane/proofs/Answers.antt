@@ -4,10 +4,9 @@ use mathlib.Core.Logic.{_⊎_, inl, inr}
 use mathlib.Core.Bool.{Bool, true, false, _&&_, cond}
 use Prim.Native.Nat.{ℕ, _+_, _-_, _≤_, _<_}
 use native.Mathlib.Omega.{arith}
-use lib.Dec.{T, eqb}
+use lib.Dec.{eqb}
 use borrow.Author.Tests.{eqb-true, eqb-false}
 use lib.Ieee.{Float}
-use Rattle.laws.proofs.Relative.{nonnegative}
 use Rattle.complex.specs.declared.number.Complex.{Complex}
 use Rattle.refusal.specs.declared.refusal.Refusal.{Refusal}
 use Rattle.refusal.specs.declared.refusal.Refusal.the-variants as refusals
@@ -99,6 +98,6 @@ kernel-answers scaled order z modulus n h =
     seeds-answers g (seedOf g scaled) h (e .backward) (seedOf g scaled .seeds) (e .kind)
 
 -- Temme's sum has met its own test by the term 18
-pub kernel-terms : (scaled : Bool) (order : Float) (z : Complex) (modulus : Float) (n : ℕ) → T (nonnegative modulus) → seedOf (groundOf order z modulus n) scaled .terms ≤ 18
+pub kernel-terms : (scaled : Bool) (order : Float) (z : Complex) (modulus : Float) (n : ℕ) → seedOf (groundOf order z modulus n) scaled .terms ≤ 18
 unfolding groundOf
-kernel-terms scaled order z modulus n p = few-terms (groundOf order z modulus n) scaled p
+kernel-terms scaled order z modulus n = few-terms (groundOf order z modulus n) scaled

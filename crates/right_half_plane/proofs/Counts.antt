@@ -26,7 +26,7 @@ use Rattle.right_half_plane.specs.declared.reach.Reached.{Reached}
 use Rattle.right_half_plane.specs.declared.reach.Reached.the-variants as reached
 use Rattle.right_half_plane.specs.Ground.{Sized}
 use Rattle.right_half_plane.specs.Recover.{isRecovered, startRecovery, loweredOf, isLowered, afterTrial, recoverStep, recoveryFrom, isZeroPair, neighboursOf, settledOf, recoverOf}
-use Rattle.right_half_plane.specs.Reach.{stepsOf, wantedOf, restingOf, climbedOf, resumedOf, reachOf, Few}
+use Rattle.right_half_plane.specs.Reach.{stepsOf, wantedOf, restingOf, climbedOf, resumedOf, begunOf, reachOf, Few}
 
 -- ---- one rung of the climb out of underflow
 after-rungs : (f l : Float) (s : Recovery) → afterTrial f l s .rungs ≡ s .rungs
@@ -96,13 +96,6 @@ pub recover-resumes : (fraction : Float) (twoOverZ z : Complex) (steps : ℕ) (f
 unfolding recoverOf startRecovery
 recover-resumes fraction twoOverZ z steps first second = settled-resumes steps _ (recovery-rungs fraction twoOverZ steps (startRecovery first second z) refl)
 
-pub recover-few : (fraction : Float) (twoOverZ z : Complex) (steps : ℕ) (first second : Complex) → steps ≤ 1000 → Few (recoverOf fraction twoOverZ z steps first second)
-recover-few fraction twoOverZ z steps first second h = go (recoverOf fraction twoOverZ z steps first second) (recover-resumes fraction twoOverZ z steps first second)
-  where
-    go : (r : Recovered) → Resumes steps r → Few r
-    go (recovered.Neighbours n) w = omega (arith, w .0)
-    go (recovered.Refused refusal) w = tt
-
 -- ---- the rungs to the first order wanted
 pub steps-few : (g : Ground) → Sized g → stepsOf g ≤ 1000
 unfolding stepsOf
@@ -140,6 +133,25 @@ unfolding resumedOf
 resumed-arrives g (recovered.Neighbours n) w = climbed-arrives g (n .«next_offset») (n .climb) (w .1) (w .0)
 resumed-arrives g (recovered.Refused refusal) w = w
 
+-- where it begins: at the seeds, after no rung, or where the climb out of underflow leaves off
+begun-resumes : (g : Ground) (underflow : Bool) (c : Climb) → c .rungs ≡ 0 → Resumes (stepsOf g) (begunOf g underflow c)
+unfolding begunOf
+begun-resumes g true c z = recover-resumes (g .fraction) (g .«two_over_z») (g .z) (stepsOf g) (c .older) (c .newer)
+begun-resumes g false c z = (short (c .rungs) (stepsOf g) z, two (c .rungs) z)
+  where
+    short : (a n : ℕ) → a ≡ 0 → a ≤ n
+    short a n e = omega arith
+
+    two : (a : ℕ) → a ≡ 0 → 2 ≡ a + 2
+    two a e = omega arith
+
+pub begun-few : (g : Ground) (underflow : Bool) (c : Climb) → Sized g → c .rungs ≡ 0 → Few (begunOf g underflow c)
+begun-few g underflow c s z = go (begunOf g underflow c) (begun-resumes g underflow c z)
+  where
+    go : (r : Recovered) → Resumes (stepsOf g) r → Few r
+    go (recovered.Neighbours n) w = omega (arith, w .0, steps-few g s)
+    go (recovered.Refused refusal) w = tt
+
 pub reach-arrives : (g : Ground) (underflow : Bool) (c : Climb) → c .rungs ≡ 0 → Arrives g (reachOf g underflow c)
 unfolding reachOf restingOf
 reach-arrives g underflow c z = go (eqb (stepsOf g) 0) underflow refl
@@ -147,18 +159,11 @@ reach-arrives g underflow c z = go (eqb (stepsOf g) 0) underflow refl
     none : eqb (stepsOf g) 0 ≡ true → wantedOf g c .rungs ≡ stepsOf g
     none e = let s : stepsOf g ≡ 0 = eqb-true (stepsOf g) 0 e in wanted-rungs g c ∙ z ∙ sym s
 
-    short : (a n : ℕ) → a ≡ 0 → a ≤ n
-    short a n e = omega arith
-
-    two : (a : ℕ) → a ≡ 0 → 2 ≡ a + 2
-    two a e = omega arith
-
     go : (a b : Bool) → eqb (stepsOf g) 0 ≡ a
-        → Arrives g (cond a (cond b (reached.Marked (wantedOf g c)) (reached.OnScale (wantedOf g c))) (cond b (resumedOf g (recoverOf (g .fraction) (g .«two_over_z») (g .z) (stepsOf g) (c .older) (c .newer))) (climbedOf g 2 c)))
+        → Arrives g (cond a (cond b (reached.Marked (wantedOf g c)) (reached.OnScale (wantedOf g c))) (resumedOf g (begunOf g underflow c)))
     go true true e = none e
     go true false e = none e
-    go false true e = resumed-arrives g _ (recover-resumes (g .fraction) (g .«two_over_z») (g .z) (stepsOf g) (c .older) (c .newer))
-    go false false e = climbed-arrives g 2 c (two (c .rungs) z) (short (c .rungs) (stepsOf g) z)
+    go false b e = resumed-arrives g _ (begun-resumes g underflow c z)
 
 arrived-few : (g : Ground) (c : Climb) → Sized g → c .rungs ≡ stepsOf g → c .rungs ≤ 1000
 arrived-few g c s e = subst (λ (n : ℕ). n ≤ 1000) (sym e) (steps-few g s)

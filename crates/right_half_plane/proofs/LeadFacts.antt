@@ -29,6 +29,10 @@ few-zeros n r (inr w) = omega (arith, w .0, w .1, w .2)
 pub first-few : (z : Complex) (order : Float) (n : ℕ) (a b twoOverZ : Complex) → n ≤ 512 → firstOrders z order n a b twoOverZ .rungs ≤ 512
 first-few z order n a b twoOverZ h = few-rungs n (firstOrders z order n a b twoOverZ) (first.first-counted z order n a b twoOverZ) h
 
+pub lead-zeros : (g : Ground) (c : Climb) → firstLead g c .zeros ≤ g .count
+unfolding firstLead
+lead-zeros g c = few-zeros (g .count) (firstOrders (g .z) (g .order) (g .count) (c .older) (c .newer) (g .«two_over_z»)) (first.first-counted (g .z) (g .order) (g .count) (c .older) (c .newer) (g .«two_over_z»))
+
 pub scaled-fits : (g : Ground) (c : Climb) → Sized g → c .rungs ≤ 1000 → LeadFits g (scaledLead c)
 unfolding scaledLead
 scaled-fits g c s h = record { zeros = omega arith; few = s .few; rungs = omega arith }
@@ -39,7 +43,7 @@ first-fits g c s h =
     let r = firstOrders (g .z) (g .order) (g .count) (c .older) (c .newer) (g .«two_over_z») in
     let k : r .rungs ≤ 512 = first-few (g .z) (g .order) (g .count) (c .older) (c .newer) (g .«two_over_z») (s .few) in
     record {
-      zeros = few-zeros (g .count) r (first.first-counted (g .z) (g .order) (g .count) (c .older) (c .newer) (g .«two_over_z»));
+      zeros = lead-zeros g c;
       few = s .few;
       rungs = omega arith;
     }

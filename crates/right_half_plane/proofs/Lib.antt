@@ -4,4 +4,6 @@ pub mod CellFacts
 pub mod Counts
 pub mod LeadFacts
 pub mod OrderFacts
+pub mod RotationAtZero
 pub mod SeedFacts
+pub mod Delivered

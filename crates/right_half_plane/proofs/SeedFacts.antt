@@ -4,7 +4,6 @@ use mathlib.Core.Bool.{Bool, true, false, not, _&&_, cond}
 use Prim.Native.Nat.{ℕ, _≤_, zero-le}
 use lib.Dec.{T, lit≤}
 use lib.Ieee.{Float, binary64, ofBits, le}
-use Rattle.laws.proofs.Relative.{nonnegative}
 use Rattle.machine.specs.Constants.{tolerance}
 use Rattle.complex.specs.declared.number.Complex.{Complex}
 use Rattle.complex.specs.Functions.{argumentOf, complexLnOf, complexExpOf, complexCoshOf, complexSinhOf}
@@ -27,7 +26,7 @@ use Rattle.right_half_plane.specs.declared.seeds.Seeds.{Seeds}
 use Rattle.right_half_plane.specs.declared.seeds.Seeds.the-variants.{Finished, Pair, Refused}
 use Rattle.right_half_plane.specs.declared.seeds.Seeded.{Seeded}
 use Rattle.right_half_plane.specs.Ground.{isAlone}
-use Rattle.right_half_plane.specs.Seeds.{isHalf, growthState, withExponential, temmePair, temmeSeeds, orderOf, pointWith, isFar, coefficientOf, farState, millerSeeds, otherSeeds, seedOf}
+use Rattle.right_half_plane.specs.Seeds.{isHalf, growthState, growthOf, grownBy, temmePair, temmeSeeds, orderOf, pointWith, isFar, coefficientOf, halfSeeds, millerSeeds, otherSeeds, isNear, seedOf}
 
 abbrev pub Kind : Ground → Seeds → Type 0
 Kind g (Finished value) = isAlone g ≡ true
@@ -46,8 +45,8 @@ temme-seeding g scaled = go (isAlone g) refl
     t = seedsOf (g .z) (g .modulus) (complexLnOf (g .«two_over_z»)) (g .fraction) (g .square)
 
     go : (b : Bool) → isAlone g ≡ b
-        → Seeding g (cond b (record { seeds = Finished (withExponential scaled (g .z) (t .first)); state = None; underflow = false; terms = t .terms; backward = 0 })
-        (record { seeds = temmePair g scaled (scaleOf (growthState (g .order) (t .shinc))) t; state = growthState (g .order) (t .shinc); underflow = false; terms = t .terms; backward = 0 }))
+        → Seeding g (cond b (record { seeds = Finished (grownBy scaled (growthOf scaled (g .z)) (t .first)); state = None; underflow = false; terms = t .terms; backward = 0 })
+        (record { seeds = temmePair g scaled (growthOf scaled (g .z)) (scaleOf (growthState (g .order) (t .shinc))) t; state = growthState (g .order) (t .shinc); underflow = false; terms = t .terms; backward = 0 }))
     go true e = record { kind = e; backward = zero-le }
     go false e = record { kind = tt; backward = zero-le }
 
@@ -57,7 +56,7 @@ miller-seeding g underflow (found.the-variants.Pair m) h = record { kind = tt; b
 miller-seeding g underflow (found.the-variants.Refused refusal) h = record { kind = h; backward = zero-le }
 
 other-seeding : (g : Ground) (scaled : Bool) → Seeding g (otherSeeds g scaled)
-unfolding otherSeeds
+unfolding otherSeeds halfSeeds
 other-seeding g scaled = go (isHalf (g .fraction))
   where
     underflow : Bool
@@ -69,29 +68,26 @@ other-seeding g scaled = go (isHalf (g .fraction))
     m : found.MillerSeeds
     m = miller.seedsOf (pointWith (g .z) (g .modulus) (sqrtOf (g .modulus)) (argumentOf (g .z))) (orderOf (g .fraction) (g .square)) value (isAlone g)
 
-    go : (b : Bool) → Seeding g (cond b (record { seeds = Pair value value; state = farState underflow; underflow = underflow; terms = 0; backward = 0 }) (millerSeeds underflow m))
+    go : (b : Bool) → Seeding g (cond b (halfSeeds underflow value) (millerSeeds underflow m))
     go true = record { kind = tt; backward = zero-le }
     go false = miller-seeding g underflow m (seeds-settled _ _ _ _)
 
 pub seeding : (g : Ground) (scaled : Bool) → Seeding g (seedOf g scaled)
 unfolding seedOf
-seeding g scaled = go (not (isHalf (g .fraction)) && le (g .modulus) (ofBits binary64 0x4000000000000000))
+seeding g scaled = go (isNear g)
   where
     go : (b : Bool) → Seeding g (cond b (temmeSeeds g scaled) (otherSeeds g scaled))
     go true = temme-seeding g scaled
     go false = other-seeding g scaled
 
 -- ---- Temme's sum, when it is begun, ends by its own test by the term 18
-temme-few : (z l : Complex) (m v w : Float) → T (nonnegative m) → T (le m (ofBits binary64 0x4000000000000000)) → seedsOf z m l v w .terms ≤ 18
-temme-few z l m v w p h = seeds-terms z m v w h l
-
 miller-terms : (u : Bool) (m : found.MillerSeeds) → millerSeeds u m .terms ≤ 18
 unfolding millerSeeds
 miller-terms u (found.the-variants.Pair m) = zero-le
 miller-terms u (found.the-variants.Refused refusal) = zero-le
 
 other-terms : (g : Ground) (scaled : Bool) → otherSeeds g scaled .terms ≤ 18
-unfolding otherSeeds
+unfolding otherSeeds halfSeeds
 other-terms g scaled = go (isHalf (g .fraction))
   where
     underflow : Bool
@@ -103,20 +99,20 @@ other-terms g scaled = go (isHalf (g .fraction))
     m : found.MillerSeeds
     m = miller.seedsOf (pointWith (g .z) (g .modulus) (sqrtOf (g .modulus)) (argumentOf (g .z))) (orderOf (g .fraction) (g .square)) value (isAlone g)
 
-    go : (b : Bool) → cond b (record { seeds = Pair value value; state = farState underflow; underflow = underflow; terms = 0; backward = 0 }) (millerSeeds underflow m) .terms ≤ 18
+    go : (b : Bool) → cond b (halfSeeds underflow value) (millerSeeds underflow m) .terms ≤ 18
     go true = zero-le
     go false = miller-terms underflow m
 
-pub few-terms : (g : Ground) (scaled : Bool) → T (nonnegative (g .modulus)) → seedOf g scaled .terms ≤ 18
-unfolding seedOf temmeSeeds
-few-terms g scaled p = go (isHalf (g .fraction)) (le (g .modulus) (ofBits binary64 0x4000000000000000)) refl
+pub few-terms : (g : Ground) (scaled : Bool) → seedOf g scaled .terms ≤ 18
+unfolding seedOf isNear temmeSeeds
+few-terms g scaled = go (isHalf (g .fraction)) (le (g .modulus) (ofBits binary64 0x4000000000000000)) refl
   where
     t : Temme
     t = seedsOf (g .z) (g .modulus) (complexLnOf (g .«two_over_z»)) (g .fraction) (g .square)
 
     alone : (b : Bool) → t .terms ≤ 18
-        → cond {A = Seeded} b (record { seeds = Finished (withExponential scaled (g .z) (t .first)); state = None; underflow = false; terms = t .terms; backward = 0 })
-        (record { seeds = temmePair g scaled (scaleOf (growthState (g .order) (t .shinc))) t; state = growthState (g .order) (t .shinc); underflow = false; terms = t .terms; backward = 0 }) .terms
+        → cond {A = Seeded} b (record { seeds = Finished (grownBy scaled (growthOf scaled (g .z)) (t .first)); state = None; underflow = false; terms = t .terms; backward = 0 })
+        (record { seeds = temmePair g scaled (growthOf scaled (g .z)) (scaleOf (growthState (g .order) (t .shinc))) t; state = growthState (g .order) (t .shinc); underflow = false; terms = t .terms; backward = 0 }) .terms
         ≤ 18
     alone true h = h
     alone false h = h
@@ -124,4 +120,4 @@ few-terms g scaled p = go (isHalf (g .fraction)) (le (g .modulus) (ofBits binary
     go : (a b : Bool) → le (g .modulus) (ofBits binary64 0x4000000000000000) ≡ b → cond {A = Seeded} (not a && b) (temmeSeeds g scaled) (otherSeeds g scaled) .terms ≤ 18
     go true b e = other-terms g scaled
     go false false e = other-terms g scaled
-    go false true e = alone (isAlone g) (temme-few (g .z) (complexLnOf (g .«two_over_z»)) (g .modulus) (g .fraction) (g .square) p (subst T (sym e) tt))
+    go false true e = alone (isAlone g) (seeds-terms (g .z) (g .modulus) (g .fraction) (g .square) (subst T (sym e) tt) (complexLnOf (g .«two_over_z»)))

@@ -35,10 +35,13 @@ unfoldable pub resumedOf : Ground → Recovered → Reached
 resumedOf g (recovered.Neighbours n) = climbedOf g (n .«next_offset») (n .climb)
 resumedOf g (recovered.Refused refusal) = Refused refusal
 
+-- out of underflow first, where it is marked
+unfoldable pub begunOf : Ground → Bool → Climb → Recovered
+begunOf g underflow c =
+    cond underflow (recoverOf (g .fraction) (g .«two_over_z») (g .z) (stepsOf g) (c .older) (c .newer)) (recovered.Neighbours (record { climb = c; «next_offset» = 2 }))
+
 unfoldable pub reachOf : Ground → Bool → Climb → Reached
-reachOf g underflow c =
-    cond (eqb (stepsOf g) 0) (restingOf g underflow c)
-    (cond underflow (resumedOf g (recoverOf (g .fraction) (g .«two_over_z») (g .z) (stepsOf g) (c .older) (c .newer))) (climbedOf g 2 c))
+reachOf g underflow c = cond (eqb (stepsOf g) 0) (restingOf g underflow c) (resumedOf g (begunOf g underflow c))
 
 -- a climb out of underflow was short
 abbrev pub Few : Recovered → Type 0

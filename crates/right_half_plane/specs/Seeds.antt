@@ -35,27 +35,34 @@ unfoldable pub growthState : Float → Complex → OverflowState
 growthState order shinc = cond (lt approximationLimit ((order ⊕ one) ⊗ magnitudeOf (shinc .re))) NearOver None
 
 -- times e^z, if scaled
-unfoldable pub withExponential : Bool → Complex → Complex → Complex
-withExponential scaled z value = cond scaled (productOf value (complexExpOf z)) value
+unfoldable pub growthOf : Bool → Complex → Complex
+growthOf scaled z = cond scaled (complexExpOf z) (record { re = one; im = ofBits binary64 0 })
+
+unfoldable pub grownBy : Bool → Complex → Complex → Complex
+grownBy scaled growth value = cond scaled (productOf value growth) value
 
 -- on the scale, the second times 2/z
-unfoldable pub temmePair : Ground → Bool → Float → Temme → Seeds
-temmePair g scaled factor t =
-    Pair (withExponential scaled (g .z) (timesReal (t .first) factor)) (withExponential scaled (g .z) (productOf (t .second) (timesReal (g .«two_over_z») factor)))
+unfoldable pub temmePair : Ground → Bool → Complex → Float → Temme → Seeds
+temmePair g scaled growth factor t =
+    Pair (grownBy scaled growth (timesReal (t .first) factor)) (grownBy scaled growth (productOf (t .second) (timesReal (g .«two_over_z») factor)))
 
 -- r = 0 and n = 1 finishes it
 unfoldable pub temmeSeeds : Ground → Bool → Seeded
 temmeSeeds g scaled =
     let t = temme.seedsOf (g .z) (g .modulus) (complexLnOf (g .«two_over_z»)) (g .fraction) (g .square) in
+    let growth = growthOf scaled (g .z) in
     let state = growthState (g .order) (t .shinc) in
     cond (isAlone g)
-    (record { seeds = Finished (withExponential scaled (g .z) (t .first)); state = None; underflow = false; terms = t .terms; backward = 0 })
-    (record { seeds = temmePair g scaled (scaleOf state) t; state = state; underflow = false; terms = t .terms; backward = 0 })
+    (record { seeds = Finished (grownBy scaled growth (t .first)); state = None; underflow = false; terms = t .terms; backward = 0 })
+    (record { seeds = temmePair g scaled growth (scaleOf state) t; state = state; underflow = false; terms = t .terms; backward = 0 })
 
 -- ---- otherwise: a coefficient, which is both seeds at a fraction of ±0.5, and Miller's steps at any other
+unfoldable pub rotationOf : Float → Float
+rotationOf fraction = magnitudeOf (cosPiOf fraction)
+
 unfoldable pub orderOf : Float → Float → Order
 orderOf fraction square =
-    record { fraction = fraction; square = square; rotation = magnitudeOf (cosPiOf fraction); distance = magnitudeOf (ofBits binary64 0x3FD0000000000000 ⊖ square) }
+    record { fraction = fraction; square = square; rotation = rotationOf fraction; distance = magnitudeOf (ofBits binary64 0x3FD0000000000000 ⊖ square) }
 
 unfoldable pub pointWith : Complex → Float → Float → Float → Point
 pointWith z modulus root angle = cond (isReal z) (pointOf z) (record { z = z; modulus = modulus; root = root; angle = angle })
@@ -77,15 +84,20 @@ unfoldable pub millerSeeds : Bool → found.MillerSeeds → Seeded
 millerSeeds underflow (found.the-variants.Pair m) = record { seeds = Pair (m .first) (m .second); state = farState underflow; underflow = underflow; terms = 0; backward = m .backward }
 millerSeeds underflow (found.the-variants.Refused refusal) = record { seeds = Refused refusal; state = farState underflow; underflow = underflow; terms = 0; backward = 0 }
 
+unfoldable pub halfSeeds : Bool → Complex → Seeded
+halfSeeds underflow value = record { seeds = Pair value value; state = farState underflow; underflow = underflow; terms = 0; backward = 0 }
+
 unfoldable pub otherSeeds : Ground → Bool → Seeded
 otherSeeds g scaled =
     let root = sqrtOf (g .modulus) in
     let angle = argumentOf (g .z) in
     let underflow = isFar scaled (g .z) in
     let value = coefficientOf scaled underflow (g .z) root angle in
-    cond (isHalf (g .fraction))
-    (record { seeds = Pair value value; state = farState underflow; underflow = underflow; terms = 0; backward = 0 })
+    cond (isHalf (g .fraction)) (halfSeeds underflow value)
     (millerSeeds underflow (miller.seedsOf (pointWith (g .z) (g .modulus) root angle) (orderOf (g .fraction) (g .square)) value (isAlone g)))
 
+unfoldable pub isNear : Ground → Bool
+isNear g = not (isHalf (g .fraction)) && le (g .modulus) (ofBits binary64 0x4000000000000000)
+
 unfoldable pub seedOf : Ground → Bool → Seeded
-seedOf g scaled = cond (not (isHalf (g .fraction)) && le (g .modulus) (ofBits binary64 0x4000000000000000)) (temmeSeeds g scaled) (otherSeeds g scaled)
+seedOf g scaled = cond (isNear g) (temmeSeeds g scaled) (otherSeeds g scaled)

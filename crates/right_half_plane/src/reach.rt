@@ -3,9 +3,10 @@
 ghost use mathlib.Core.Path.{_≡_};
 ghost use Prim.Native.Nat.{_≤_};
 ghost use Rattle.right_half_plane.specs.Ground.{Sized};
-ghost use Rattle.right_half_plane.specs.Reach.{Few, stepsOf, wantedOf, restingOf, climbedOf, resumedOf, reachOf};
+ghost use Rattle.right_half_plane.specs.Reach.{Few, stepsOf, wantedOf, restingOf, climbedOf, resumedOf, begunOf, reachOf};
 use crate::ground::Ground;
 use crate::recover::Recovered;
+use crate::recover::Resumed;
 use crate::recover::recover;
 use complex::number::Complex;
 use recurrence::climb::climb;
@@ -79,22 +80,30 @@ fn resumed(g: Ground, found: Recovered) -> Reached
     }
 }
 
-pub fn reach(g: Ground, underflow: bool, c: Climb) -> Reached
-    requires { ⌜ Sized g × (c .rungs ≡ 0) ⌝ }
-    ensures { λ r. ⌜ r ≡ reachOf g underflow c ⌝ }
+// where the plain climb begins: at the seeds, or where the climb out of underflow leaves off
+fn begun(g: Ground, underflow: bool, c: Climb) -> Recovered
+    requires { ⌜ Sized g ⌝ }
+    ensures { λ r. ⌜ r ≡ begunOf g underflow c ⌝ }
 {
     let z = g.z;
     let two_over_z = g.two_over_z;
     let first = c.older;
     let second = c.newer;
+    if underflow {
+        return recover(g.fraction, two_over_z, z, steps(g), first, second);
+    }
+    Recovered::Neighbours(Resumed {
+        climb: c,
+        next_offset: 2,
+    })
+}
+
+pub fn reach(g: Ground, underflow: bool, c: Climb) -> Reached
+    requires { ⌜ Sized g × (c .rungs ≡ 0) ⌝ }
+    ensures { λ r. ⌜ r ≡ reachOf g underflow c ⌝ }
+{
     if steps(g) == 0 {
         return resting(g, underflow, c);
     }
-    if underflow {
-        return resumed(
-            g,
-            recover(g.fraction, two_over_z, z, steps(g), first, second),
-        );
-    }
-    climbed(g, 2, c)
+    resumed(g, begun(g, underflow, c))
 }

@@ -1,7 +1,7 @@
 // The seed stage: K at the order's fraction and one above it, by Temme's sum for |z| to 2, by Miller's steps above, by neither at a fraction of ±0.5.
 // From src/amos/right_half_plane.rs, k_right_half_plane (ZBKNU). Promised: seedOf of specs/Seeds.antt. The modulus, 2/z and the angle are not worked out again.
 ghost use mathlib.Core.Path.{_≡_};
-ghost use Rattle.right_half_plane.specs.Seeds.{isHalf, growthState, withExponential, temmePair, temmeSeeds, pointWith, orderOf, isFar, coefficientOf, farState, millerSeeds, otherSeeds, seedOf};
+ghost use Rattle.right_half_plane.specs.Seeds.{isHalf, growthState, growthOf, grownBy, temmePair, temmeSeeds, pointWith, rotationOf, orderOf, isFar, coefficientOf, farState, halfSeeds, millerSeeds, otherSeeds, isNear, seedOf};
 use crate::ground::Ground;
 use crate::ground::is_alone;
 use circular::cos_pi::cos_pi;
@@ -14,7 +14,9 @@ use miller::point::Order;
 use miller::point::Point;
 use miller::point::at;
 use miller::point::is_real;
+use miller::search::search;
 use miller::seeds::MillerSeeds;
+use miller::seeds::seeds_at;
 use recurrence::state::OverflowState;
 use recurrence::state::scale;
 use refusal::refusal::Refusal;
@@ -53,29 +55,34 @@ fn growth_state(order: f64, shinc: Complex) -> OverflowState
     OverflowState::None
 }
 
-fn with_exponential(scaled: bool, z: Complex, value: Complex) -> Complex
-    ensures { λ r. ⌜ r ≡ withExponential scaled z value ⌝ }
+// e^z, which scaled seeds take. It does not wait for Temme's sum, and is worked out before it; unscaled seeds ask for none.
+fn growth(scaled: bool, z: Complex) -> Complex
+    ensures { λ r. ⌜ r ≡ growthOf scaled z ⌝ }
 {
     if scaled {
-        return value.product(z.exp());
+        return z.exp();
+    }
+    Complex { re: 1.0, im: 0.0 }
+}
+
+fn grown(scaled: bool, growth: Complex, value: Complex) -> Complex
+    ensures { λ r. ⌜ r ≡ grownBy scaled growth value ⌝ }
+{
+    if scaled {
+        return value.product(growth);
     }
     value
 }
 
-fn temme_pair(g: Ground, scaled: bool, factor: f64, t: Temme) -> Seeds
-    ensures { λ r. ⌜ r ≡ temmePair g scaled factor t ⌝ }
+fn temme_pair(g: Ground, scaled: bool, growth: Complex, factor: f64, t: Temme) -> Seeds
+    ensures { λ r. ⌜ r ≡ temmePair g scaled growth factor t ⌝ }
 {
-    let z = g.z;
     let two_over_z = g.two_over_z;
     let low = t.first;
     let high = t.second;
     let first = low.times_real(factor);
     let second = high.product(two_over_z.times_real(factor));
-    if scaled {
-        let growth = z.exp();
-        return Seeds::Pair(first.product(growth), second.product(growth));
-    }
-    Seeds::Pair(first, second)
+    Seeds::Pair(grown(scaled, growth, first), grown(scaled, growth, second))
 }
 
 fn temme_seeds(g: Ground, scaled: bool) -> Seeded
@@ -83,11 +90,12 @@ fn temme_seeds(g: Ground, scaled: bool) -> Seeded
 {
     let z = g.z;
     let two_over_z = g.two_over_z;
+    let growth = growth(scaled, z);
     let t = temme::seeds::seeds(z, g.modulus, two_over_z.ln(), g.fraction, g.square);
     let terms = t.terms;
     if is_alone(g) {
         return Seeded {
-            seeds: Seeds::Finished(with_exponential(scaled, z, t.first)),
+            seeds: Seeds::Finished(grown(scaled, growth, t.first)),
             state: OverflowState::None,
             underflow: false,
             terms,
@@ -96,12 +104,22 @@ fn temme_seeds(g: Ground, scaled: bool) -> Seeded
     }
     let state = growth_state(g.order, t.shinc);
     Seeded {
-        seeds: temme_pair(g, scaled, scale(state), t),
+        seeds: temme_pair(g, scaled, growth, scale(state), t),
         state,
         underflow: false,
         terms,
         backward: 0,
     }
+}
+
+// 1 at the fraction 0, with nothing to work out
+fn rotation(fraction: f64) -> f64
+    ensures { λ r. ⌜ r ≡ rotationOf fraction ⌝ }
+{
+    if fraction == 0.0 {
+        return 1.0;
+    }
+    magnitude(cos_pi(fraction))
 }
 
 fn order_of(fraction: f64, square: f64) -> Order
@@ -110,7 +128,7 @@ fn order_of(fraction: f64, square: f64) -> Order
     Order {
         fraction,
         square,
-        rotation: magnitude(cos_pi(fraction)),
+        rotation: rotation(fraction),
         distance: magnitude(0.25 - square),
     }
 }
@@ -188,6 +206,18 @@ fn miller_seeds(underflow: bool, found: MillerSeeds) -> Seeded
     }
 }
 
+fn half_seeds(underflow: bool, value: Complex) -> Seeded
+    ensures { λ r. ⌜ r ≡ halfSeeds underflow value ⌝ }
+{
+    Seeded {
+        seeds: Seeds::Pair(value, value),
+        state: far_state(underflow),
+        underflow,
+        terms: 0,
+        backward: 0,
+    }
+}
+
 fn other_seeds(g: Ground, scaled: bool) -> Seeded
     ensures { λ r. ⌜ r ≡ otherSeeds g scaled ⌝ }
 {
@@ -195,34 +225,30 @@ fn other_seeds(g: Ground, scaled: bool) -> Seeded
     let root = sqrt(g.modulus);
     let angle = z.argument();
     let underflow = is_far(scaled, z);
-    let value = coefficient(scaled, underflow, z, root, angle);
     if is_half(g.fraction) {
-        return Seeded {
-            seeds: Seeds::Pair(value, value),
-            state: far_state(underflow),
-            underflow,
-            terms: 0,
-            backward: 0,
-        };
+        return half_seeds(underflow, coefficient(scaled, underflow, z, root, angle));
     }
-    miller_seeds(
-        underflow,
-        miller::seeds::seeds(
-            point_with(z, g.modulus, root, angle),
-            order_of(g.fraction, g.square),
-            value,
-            is_alone(g),
-        ),
-    )
+    let point = point_with(z, g.modulus, root, angle);
+    let order = order_of(g.fraction, g.square);
+    let found = search(point, order);
+    let value = coefficient(scaled, underflow, z, root, angle);
+    miller_seeds(underflow, seeds_at(point, order, value, is_alone(g), found))
+}
+
+// Temme's sum is for |z| to 2, at a fraction other than ±0.5.
+fn is_near(g: Ground) -> bool
+    ensures { λ r. ⌜ r ≡ isNear g ⌝ }
+{
+    if is_half(g.fraction) {
+        return false;
+    }
+    g.modulus <= 2.0
 }
 
 pub fn seed(g: Ground, scaled: bool) -> Seeded
     ensures { λ r. ⌜ r ≡ seedOf g scaled ⌝ }
 {
-    if is_half(g.fraction) {
-        return other_seeds(g, scaled);
-    }
-    if g.modulus <= 2.0 {
+    if is_near(g) {
         return temme_seeds(g, scaled);
     }
     other_seeds(g, scaled)

@@ -5,6 +5,9 @@ use borrow.Author.Needs.{needs}
 use Rattle.right_half_plane.proofs.seeds.temme_seeds.Statement.{statement}
 use Rattle.right_half_plane.proofs.seeds.temme_seeds.Tie as tie
 
+growth-requires : tie.Need-growth-requires
+growth-requires c κs = search needs
+
 ln-requires : tie.Need-ln-requires
 ln-requires c κs = search needs
 
@@ -14,12 +17,12 @@ seeds-requires c κs = search needs
 is-alone-requires : tie.Need-is-alone-requires
 is-alone-requires c κs = search needs
 
-with-exponential-requires : tie.Need-with-exponential-requires
-with-exponential-requires c κs = search needs
+grown-requires : tie.Need-grown-requires
+grown-requires c κs = search needs
 
 returns : tie.Need-returns
 unfolding temmeSeeds
-returns c = simp (c .with-exponential .ensures, c .before .before .before .seeds .ensures, c .before .before .before .before .ln .ensures, sym (c .before .before .is-alone .ensures) ∙ c .before .if1 .taken)
+returns c = simp (c .grown .ensures, c .before .before .before .seeds .ensures, c .before .before .before .before .ln .ensures, c .before .before .before .before .before .growth .ensures, sym (c .before .before .is-alone .ensures) ∙ c .before .if1 .taken)
 
 growth-state-requires : tie.Need-growth-state-requires
 growth-state-requires c κs = search needs
@@ -32,7 +35,7 @@ temme-pair-requires c κs = search needs
 
 returns-2 : tie.Need-returns-2
 unfolding temmeSeeds
-returns-2 c = simp (c .temme-pair .ensures, c .before .scale .ensures, c .before .before .growth-state .ensures, c .before .before .before .before .before .seeds .ensures, c .before .before .before .before .before .before .ln .ensures, sym (c .before .before .before .before .is-alone .ensures) ∙ c .before .before .before .if1 .left)
+returns-2 c = simp (c .temme-pair .ensures, c .before .scale .ensures, c .before .before .growth-state .ensures, c .before .before .before .before .before .seeds .ensures, c .before .before .before .before .before .before .ln .ensures, c .before .before .before .before .before .before .before .growth .ensures, sym (c .before .before .before .before .is-alone .ensures) ∙ c .before .before .before .if1 .left)
 
 pub temme-seeds-spec : {M : Type 1} → statement M
-temme-seeds-spec = tie.close (tie.spec ln-requires seeds-requires is-alone-requires with-exponential-requires returns growth-state-requires scale-requires temme-pair-requires returns-2)
+temme-seeds-spec = tie.close (tie.spec growth-requires ln-requires seeds-requires is-alone-requires grown-requires returns growth-state-requires scale-requires temme-pair-requires returns-2)

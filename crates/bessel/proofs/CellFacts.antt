@@ -14,12 +14,27 @@ here : (l : List Float) (i : ℕ) (d : Float) → i < length l → allFinite (dr
 unfolding allFinite
 here l i d h = rw (add-one, drop-cons l i d)
 
-pub all-next : (l : List Float) (i : ℕ) (d : Float) → i < length l → finite (getD l i d) ≡ true → allFinite (drop i l) ≡ allFinite (drop (i + 1) l)
+all-next : (l : List Float) (i : ℕ) (d : Float) → i < length l → finite (getD l i d) ≡ true → allFinite (drop i l) ≡ allFinite (drop (i + 1) l)
 all-next l i d h e = here l i d h ∙ ap (λ (b : Bool). b && allFinite (drop (i + 1) l)) e
 
-pub all-stop : (l : List Float) (i : ℕ) (d : Float) → i < length l → finite (getD l i d) ≡ false → allFinite (drop i l) ≡ false
+all-stop : (l : List Float) (i : ℕ) (d : Float) → i < length l → finite (getD l i d) ≡ false → allFinite (drop i l) ≡ false
 all-stop l i d h e = here l i d h ∙ ap (λ (b : Bool). b && allFinite (drop (i + 1) l)) e
 
-pub all-end : (l : List Float) (i : ℕ) → length l ≤ i → allFinite (drop i l) ≡ true
+-- with what was found of the cells before
+pub all-kept : (l : List Float) (i : ℕ) (d : Float) (all : Bool) → i < length l → finite (getD l i d) ≡ true → (all && allFinite (drop i l)) ≡ (all && allFinite (drop (i + 1) l))
+all-kept l i d all h e = ap (λ (b : Bool). all && b) (all-next l i d h e)
+
+pub all-lost : (l : List Float) (i : ℕ) (d : Float) (all : Bool) → i < length l → finite (getD l i d) ≡ false → (all && allFinite (drop i l)) ≡ false
+all-lost l i d all h e = ap (λ (b : Bool). all && b) (all-stop l i d h e) ∙ none all
+  where
+    none : (b : Bool) → (b && false) ≡ false
+    none true = refl
+    none false = refl
+
+pub all-end : (l : List Float) (i : ℕ) (all : Bool) → length l ≤ i → (all && allFinite (drop i l)) ≡ all
 unfolding allFinite
-all-end l i h = ap allFinite (drop-of-length-le l h)
+all-end l i all h = ap (λ (r : List Float). all && allFinite r) (drop-of-length-le l h) ∙ whole all
+  where
+    whole : (b : Bool) → (b && true) ≡ b
+    whole true = refl
+    whole false = refl

@@ -3,8 +3,13 @@ pub mod CellFacts
 pub mod LengthFacts
 pub mod ClassifyFacts
 pub mod SeriesFacts
+pub mod KernelFacts
 pub mod Numbers
+pub mod OutcomeFacts
 pub mod SeriesOutcome
 pub mod ModulusBound
+pub mod ArgumentFacts
 pub mod SumsEnd
+pub mod KernelOutcome
+pub mod ZeroSigns
 pub mod Rows

@@ -34,13 +34,14 @@ abbrev pub givenOf : (Arguments → ℕ) → Verdict → ℕ
 givenOf later (Admitted a) = later a
 givenOf later (Refused r) = numberOf r
 
--- an admitted call gets none of the first five
+-- an admitted call gets none of the first five, and never 9
 pub record Later (n : ℕ) : Type 0 where
   pub one : eqb n 1 ≡ false
   pub two : eqb n 2 ≡ false
   pub three : eqb n 3 ≡ false
   pub four : eqb n 4 ≡ false
   pub five : eqb n 5 ≡ false
+  pub nine : eqb n 9 ≡ false
 
 record Tested (m n : ℕ) (l f d k b : Bool) : Type 0 where
   one : eqb m 1 ≡ not l
@@ -52,17 +53,18 @@ record Tested (m n : ℕ) (l f d k b : Bool) : Type 0 where
   six : eqb m 6 ≡ ((l && (f && (d && (not k && not b)))) && eqb n 6)
   seven : eqb m 7 ≡ ((l && (f && (d && (not k && not b)))) && eqb n 7)
   eight : eqb m 8 ≡ ((l && (f && (d && (not k && not b)))) && eqb n 8)
+  nine : eqb m 9 ≡ false
 
 module _ (later : Arguments → ℕ) (a : Arguments) (h : Later (later a)) where
   by-tests : (l f o s z k b : Bool) → Tested (givenOf later (picked a l f o s z k b)) (later a) l f (o && (s && z)) k b
-  by-tests false f o s z k b = record { one = refl; two = refl; three = refl; four = refl; five = refl; none = refl; six = refl; seven = refl; eight = refl }
-  by-tests true false o s z k b = record { one = refl; two = refl; three = refl; four = refl; five = refl; none = refl; six = refl; seven = refl; eight = refl }
-  by-tests true true false s z k b = record { one = refl; two = refl; three = refl; four = refl; five = refl; none = refl; six = refl; seven = refl; eight = refl }
-  by-tests true true true false z k b = record { one = refl; two = refl; three = refl; four = refl; five = refl; none = refl; six = refl; seven = refl; eight = refl }
-  by-tests true true true true false k b = record { one = refl; two = refl; three = refl; four = refl; five = refl; none = refl; six = refl; seven = refl; eight = refl }
-  by-tests true true true true true true b = record { one = refl; two = refl; three = refl; four = refl; five = refl; none = refl; six = refl; seven = refl; eight = refl }
-  by-tests true true true true true false true = record { one = refl; two = refl; three = refl; four = refl; five = refl; none = refl; six = refl; seven = refl; eight = refl }
-  by-tests true true true true true false false = record { one = h .one; two = h .two; three = h .three; four = h .four; five = h .five; none = refl; six = refl; seven = refl; eight = refl }
+  by-tests false f o s z k b = record { one = refl; two = refl; three = refl; four = refl; five = refl; none = refl; six = refl; seven = refl; eight = refl; nine = refl }
+  by-tests true false o s z k b = record { one = refl; two = refl; three = refl; four = refl; five = refl; none = refl; six = refl; seven = refl; eight = refl; nine = refl }
+  by-tests true true false s z k b = record { one = refl; two = refl; three = refl; four = refl; five = refl; none = refl; six = refl; seven = refl; eight = refl; nine = refl }
+  by-tests true true true false z k b = record { one = refl; two = refl; three = refl; four = refl; five = refl; none = refl; six = refl; seven = refl; eight = refl; nine = refl }
+  by-tests true true true true false k b = record { one = refl; two = refl; three = refl; four = refl; five = refl; none = refl; six = refl; seven = refl; eight = refl; nine = refl }
+  by-tests true true true true true true b = record { one = refl; two = refl; three = refl; four = refl; five = refl; none = refl; six = refl; seven = refl; eight = refl; nine = refl }
+  by-tests true true true true true false true = record { one = refl; two = refl; three = refl; four = refl; five = refl; none = refl; six = refl; seven = refl; eight = refl; nine = refl }
+  by-tests true true true true true false false = record { one = h .one; two = h .two; three = h .three; four = h .four; five = h .five; none = refl; six = refl; seven = refl; eight = refl; nine = h .nine }
 
 -- each number exactly when, of a call whose outcome by its verdict has the number m
 pub record Numbered (kind : Kind) (a : Arguments) (length m n : ℕ) : Type 0 where
@@ -75,6 +77,7 @@ pub record Numbered (kind : Kind) (a : Arguments) (length m n : ℕ) : Type 0 wh
   pub six : Exactly (m ≡ 6) (passes kind a length && eqb n 6)
   pub seven : Exactly (m ≡ 7) (passes kind a length && eqb n 7)
   pub eight : Exactly (m ≡ 8) (passes kind a length && eqb n 8)
+  pub nine : m ≡ 9 → ⊥
 
 pub numbered :
     (kind : Kind) (v re im : Float) (length : ℕ) (later : Arguments → ℕ) (m : ℕ) → m ≡ givenOf later (classifyOf kind v re im length) → Later (later (argumentsOf v re im)) →
@@ -94,4 +97,5 @@ numbered kind v re im length later m e h =
       six = by 6 _ (t .six);
       seven = by 7 _ (t .seven);
       eight = by 8 _ (t .eight);
+      nine = λ e. by 9 _ (t .nine) .0 e;
     }

@@ -6,6 +6,7 @@ use Prim.Native.Nat.{ℕ}
 use lib.IntN.{pos}
 use lib.Ieee.{Float, nan, binary64, ofBits, ofInt, round, size, neg, add, mul, eq, le, lt}
 use Rattle.machine.specs.Constants.{underflowLimit}
+use Rattle.refusal.specs.declared.refusal.Refusal.{Refusal}
 use Rattle.refusal.specs.declared.refusal.Refusal.the-variants.{Length, NotFinite, Domain, Series}
 use Rattle.roots.specs.Hypot.{hypotOf}
 use Rattle.complex.specs.Functions.{modulusOf}
@@ -22,6 +23,7 @@ use Rattle.bessel.specs.Answer.{answeredOf}
 use Rattle.bessel.specs.Cells.{allFinite}
 use Rattle.bessel.specs.Outcome.{refusedOutcome, judgedIf, judgedOf}
 use Rattle.bessel.specs.I.{visitAnswer, visitedOutcome, seriesOutcome, iOutcomeOf, iOutcome}
+use Rattle.bessel.specs.K.{kOutcomeOf, kOutcome}
 
 abbrev nought : Float
 nought = ofBits binary64 0
@@ -66,3 +68,20 @@ below-by kind v im length false l f o = simp (l, f, o)
 
 pub below-zero : (kind : Kind) (v im : Float) (length : ℕ) → lengthInside length ≡ true → areFinite (argumentsOf v (ofBits binary64 0x8000000000000001) im) ≡ true → classifyOf kind v (ofBits binary64 0x8000000000000001) im length ≡ Refused Domain
 below-zero kind v im length l f = below-by kind v im length (orderInside (argumentsOf v (ofBits binary64 0x8000000000000001) im)) l f refl
+
+-- ---- the same rows as whole outcomes of K: the record and every cell
+refused-by : (scaled : Bool) (v re im : Float) (length : ℕ) (r : Refusal) → classifyOf K v re im length ≡ Refused r → kOutcome scaled v re im length ≡ refusedOutcome r length
+unfolding kOutcome kOutcomeOf
+refused-by scaled v re im length r e = rw e
+
+pub k-empty : (scaled : Bool) (v re im : Float) → kOutcome scaled v re im 0 ≡ refusedOutcome Length 0
+k-empty scaled v re im = refused-by scaled v re im 0 Length (empty K v re im)
+
+pub k-too-long : (scaled : Bool) (v re im : Float) → kOutcome scaled v re im 1026 ≡ refusedOutcome Length 1026
+k-too-long scaled v re im = refused-by scaled v re im 1026 Length (too-long K v re im)
+
+pub k-not-a-number : (scaled : Bool) (length : ℕ) → lengthInside length ≡ true → kOutcome scaled nan nought nought length ≡ refusedOutcome NotFinite length
+k-not-a-number scaled length l = refused-by scaled nan nought nought length NotFinite (not-a-number-first length l)
+
+pub k-below-zero : (scaled : Bool) (v im : Float) (length : ℕ) → lengthInside length ≡ true → areFinite (argumentsOf v (ofBits binary64 0x8000000000000001) im) ≡ true → kOutcome scaled v (ofBits binary64 0x8000000000000001) im length ≡ refusedOutcome Domain length
+k-below-zero scaled v im length l f = refused-by scaled v (ofBits binary64 0x8000000000000001) im length Domain (below-zero K v im length l f)

@@ -32,14 +32,12 @@ use Rattle.refusal.proofs.Distinct.{never-zero}
 use Rattle.bessel.proofs.LengthFacts.{lent}
 use Rattle.bessel.proofs.ClassifyFacts.{Passed, admitted}
 use Rattle.bessel.proofs.SeriesFacts.{series-fits}
+use Rattle.bessel.proofs.OutcomeFacts.{no-other, judged-number, later, is-none, is-eight, RefusedWhole, refused-facts}
 use Rattle.bessel.proofs.Numbers.{Exactly, domainInside, passes, givenOf, Later, numbered}
 
 -- ---- the contract of `i` leaves no second outcome
-pub outcome-same : (p q : Outcome) → p .answer ≡ q .answer → p .cells ≡ q .cells → p ≡ q
-outcome-same p q a c = λ i. record { answer = a i; cells = c i }
-
 pub only-outcome : (scaled : Bool) (v re im : Float) (length : ℕ) (p q : Outcome) → let o = iOutcome scaled v re im length in (p .answer ≡ o .answer) × (p .cells ≡ o .cells) → (q .answer ≡ o .answer) × (q .cells ≡ o .cells) → p ≡ q
-only-outcome scaled v re im length p q e f = outcome-same p q (e .0 ∙ sym (f .0)) (e .1 ∙ sym (f .1))
+only-outcome scaled v re im length p q e f = no-other (iOutcome scaled v re im length) p q e f
 
 -- ---- the visit of an admitted call, and its finished cells
 abbrev pub visitedBy : Bool → ℕ → Arguments → Visited
@@ -55,27 +53,10 @@ answer-number : (w : Visited) → visitAnswer w .number ≡ 0
 unfolding visitAnswer answeredOf
 answer-number w = refl
 
-judged-number : (b : Bool) (length : ℕ) (answer : Answer) (cells : List Float) → answer .number ≡ 0 → judgedIf b length answer cells .answer .number ≡ cond b 0 8
-unfolding judgedIf refusedOutcome refusedOf
-judged-number true length answer cells e = e
-judged-number false length answer cells e = refl
-
 number-by : (scaled : Bool) (length : ℕ) (verdict : Verdict) → iOutcomeOf scaled length verdict .answer .number ≡ givenOf (laterOf scaled length) verdict
 unfolding iOutcomeOf seriesOutcome visitedOutcome judgedOf refusedOutcome refusedOf
 number-by scaled length (Admitted a) = let w = visitedBy scaled length a in judged-number (allFinite (finishedBy scaled length a)) length (visitAnswer w) (w .cells) (answer-number w)
 number-by scaled length (Refused r) = refl
-
-later : (b : Bool) → Later (cond b 0 8)
-later true = record { one = refl; two = refl; three = refl; four = refl; five = refl }
-later false = record { one = refl; two = refl; three = refl; four = refl; five = refl }
-
-is-none : (b : Bool) → eqb (cond b 0 8) 0 ≡ b
-is-none true = refl
-is-none false = refl
-
-is-eight : (b : Bool) → eqb (cond b 0 8) 8 ≡ not b
-is-eight true = refl
-is-eight false = refl
 
 -- ---- the number of a call, exactly when
 pub record Numbers (scaled : Bool) (a : Arguments) (length m : ℕ) : Type 0 where
@@ -85,6 +66,7 @@ pub record Numbers (scaled : Bool) (a : Arguments) (length m : ℕ) : Type 0 whe
   pub five : Exactly (m ≡ 5) (lengthInside length && (areFinite a && (domainInside a && beyondSeries (a .order) (length / 2) (a .modulus))))
   pub eight : Exactly (m ≡ 8) (passes I a length && not (allFinite (finishedBy scaled length a)))
   pub none : Exactly (m ≡ 0) (passes I a length && allFinite (finishedBy scaled length a))
+  pub nine : m ≡ 9 → ⊥
 
 pub numbers : (scaled : Bool) (v re im : Float) (length : ℕ) → Numbers scaled (argumentsOf v re im) length (iOutcome scaled v re im length .answer .number)
 unfolding zeroRefused seriesRefused iOutcome
@@ -100,6 +82,7 @@ numbers scaled v re im length =
       five = n .five;
       eight = subst (λ (b : Bool). Exactly (m ≡ 8) (passes I a length && b)) (is-eight g) (n .eight);
       none = subst (λ (b : Bool). Exactly (m ≡ 0) (passes I a length && b)) (is-none g) (n .none);
+      nine = n .nine;
     }
 
 -- ---- how a call ends: refused, and then every cell is the fixed not-a-number and every count is zero; or answered by the visit
@@ -116,20 +99,6 @@ pub ends : (scaled : Bool) (length : ℕ) (verdict : Verdict) → Ended scaled l
 unfolding iOutcomeOf
 ends scaled length (Admitted a) = judged-ends scaled length a (allFinite (finishedBy scaled length a)) refl
 ends scaled length (Refused r) = refused r refl
-
--- a refusal: its number, counts of zero, and the fixed not-a-number in every cell
-pub record RefusedWhole (length : ℕ) (o : Outcome) : Type 0 where
-  pub refusal : Refusal
-  pub number : o .answer .number ≡ numberOf refusal
-  pub zeros : o .answer .zeros ≡ pos 0
-  pub longest-sum : o .answer .«longest_sum» ≡ 0
-  pub rungs : o .answer .rungs ≡ 0
-  pub backward : o .answer .backward ≡ 0
-  pub cells : o .cells ≡ replicate length notANumber
-
-refused-facts : (length : ℕ) (r : Refusal) → RefusedWhole length (refusedOutcome r length)
-unfolding refusedOutcome refusedOf
-refused-facts length r = record { refusal = r; number = refl; zeros = refl; longest-sum = refl; rungs = refl; backward = refl; cells = refl }
 
 -- an answer: the checks are passed, and the record and the cells are the visit's
 pub record AnsweredWhole (scaled : Bool) (a : Arguments) (length : ℕ) (o : Outcome) : Type 0 where

@@ -1,109 +1,25 @@
 -- Every sum that an admitted call of I begins leaves by its own test, after 19 terms at most: refusals 3 and 5 leave only such sums. Assumes nothing.
-use mathlib.Core.Path.{_≡_, refl, sym, ap, _∙_, subst}
-use mathlib.Core.Bool.{Bool, true, false, cond, _&&_}
-use Prim.Native.Nat.{ℕ, _-_, _*_, _/_, _^_, _≤_, _<_}
+use mathlib.Core.Path.{_≡_}
+use mathlib.Core.Bool.{Bool, false}
+use Prim.Native.Nat.{ℕ, _-_, _/_}
 use native.Mathlib.Omega.{arith}
-use lib.Dec.{T, ltb→lt}
-use lib.Ieee.{Float, nan, inf, fin, binary64, up, down, ofBits, neg, eq, lt, le, fits}
-use lib.Ieee.Fits.{and-l, and-r}
-use lib.Ieee.Positive.{num, den}
-use lib.Ieee.Scale.{finite}
-use Rattle.laws.proofs.Order.{nonneg, not-lt→le}
-use Rattle.laws.proofs.Sign.{eq-comm}
-use Rattle.laws.proofs.Relative.{nonnegative}
-use Rattle.laws.proofs.Bound.{Up, up-test, up-of-le}
-use Rattle.complex.specs.Functions.{modulusOf}
-use Rattle.complex.specs.Lost.{magnitudeOf}
+use lib.Dec.{T}
+use lib.Ieee.{Float, binary64, fits}
 use Rattle.power_series.specs.Error.{sumIsOne}
 use Rattle.power_series.specs.Orders.{orderPlusOne, halfSquare}
 use Rattle.power_series.specs.Ground.{groundOf}
 use Rattle.power_series.proofs.SumEnds.{EndsByTest}
-use Rattle.power_series.proofs.VisitBound.{order-limit}
 use Rattle.power_series.proofs.VisitSums.{Wanted, walkAfter, visit-sums-end}
-use Rattle.bessel.specs.declared.arguments.Arguments.{Arguments}
 use Rattle.bessel.specs.declared.classify.Kind.the-variants.{I}
-use Rattle.bessel.specs.Arguments.{nothing, largestOrder, largestPart, normalisedOf, argumentsOf, areFinite, orderInside, sizeInside}
+use Rattle.bessel.specs.Arguments.{argumentsOf}
 use Rattle.bessel.specs.Classify.{seriesRefused}
 use Rattle.bessel.specs.I.{iOutcome}
 use Rattle.bessel.proofs.LengthFacts.{lent}
 use Rattle.bessel.proofs.ClassifyFacts.{Passed}
-use Rattle.bessel.proofs.ModulusBound.{modulus-up}
+use Rattle.bessel.proofs.ArgumentFacts.{order-up, modulus-limit}
 use Rattle.bessel.proofs.SeriesOutcome.{answered-whole}
 
--- ---- a value without -0
-without : (x : Float) (b : Bool) → eq x nothing ≡ b → T (finite (cond b nothing x)) → T (le nothing (cond b nothing x)) → T (nonnegative (cond b nothing x))
-unfolding ofBits le lt
-without x true e f h = tt
-without nan false e f h = absurd f
-without (inf s) false e f h = absurd f
-without (fin false m d) false e f h = tt
-without (fin true m d) false e f h = absurd (subst T (eq-comm nothing (fin true m d) ∙ e) h)
-
-pub normalised-sign : (x : Float) → T (finite (normalisedOf x)) → T (le nothing (normalisedOf x)) → T (nonnegative (normalisedOf x))
-unfolding normalisedOf
-normalised-sign x f h = without x (eq x nothing) refl f h
-
-fits-by : (x : Float) (b : Bool) → T (fits binary64 x) → T (fits binary64 (cond b nothing x))
-unfolding ofBits fits
-fits-by x true f = tt
-fits-by x false f = f
-
-pub normalised-fits : (x : Float) → T (fits binary64 x) → T (fits binary64 (normalisedOf x))
-unfolding normalisedOf
-normalised-fits x f = fits-by x (eq x nothing) f
-
--- ---- a part up to 32,768 in magnitude
-part-limit : Up largestPart (2 ^ 15) 1
-unfolding ofBits
-part-limit = up-test largestPart (2 ^ 15) 1 tt
-
-bare-bound : (m : ℕ) (n d : ℕ) → m ≡ n * 1 → m ≤ 2 ^ 15 * d → n ≤ 2 ^ 15 * d
-bare-bound m n d e h = omega arith
-
-part-by : (x : Float) (b : Bool) → lt x nothing ≡ b → T (finite x) → T (le (cond b (neg x) x) largestPart) → num x ≤ 2 ^ 15 * den x
-unfolding neg lt ofBits
-part-by nan b e f h = absurd f
-part-by (inf s) b e f h = absurd f
-part-by (fin true m d) true e f h = bare-bound _ (m * up d) (down d) refl (up-of-le (fin false m d) largestPart tt h part-limit .bound)
-part-by (fin false m d) false e f h = bare-bound _ (m * up d) (down d) refl (up-of-le (fin false m d) largestPart tt h part-limit .bound)
-part-by (fin false m d) true e f h = let l = ltb→lt _ _ (subst T (sym e) tt) in absurd (none (m * up d * 1) (down d) l)
-  where
-    none : (n d : ℕ) → n < 0 * 1 * d → ⊥
-    none n d h = omega arith
-part-by (fin true m d) false e f h = let z : m * up d ≡ 0 = nonneg (fin true m d) tt (not-lt→le (fin true m d) nothing tt tt e) in omega arith
-
-pub part-bound : (x : Float) → T (finite x) → T (le (magnitudeOf x) largestPart) → num x ≤ 2 ^ 15 * den x
-unfolding magnitudeOf
-part-bound x f h = part-by x (lt x nothing) refl f h
-
--- ---- the order and the modulus of an admitted call
 module _ (v re im : Float) (Fr : T (fits binary64 re)) (Fi : T (fits binary64 im)) (length : ℕ) (p : Passed I (argumentsOf v re im) length) where
-  fine : T (finite (normalisedOf v) && (finite (normalisedOf re) && finite im))
-  unfolding argumentsOf areFinite
-  fine = subst T (sym (p .fine)) tt
-
-  fine-order : T (finite (normalisedOf v))
-  fine-order = and-l (finite (normalisedOf v)) (finite (normalisedOf re) && finite im) fine
-
-  fine-re : T (finite (normalisedOf re))
-  fine-re = and-l (finite (normalisedOf re)) (finite im) (and-r (finite (normalisedOf v)) (finite (normalisedOf re) && finite im) fine)
-
-  fine-im : T (finite im)
-  fine-im = and-r (finite (normalisedOf re)) (finite im) (and-r (finite (normalisedOf v)) (finite (normalisedOf re) && finite im) fine)
-
-  pub order-up : Up (argumentsOf v re im .order) 1000 1
-  unfolding argumentsOf orderInside
-  order-up =
-      let t : T (le nothing (normalisedOf v) && le (normalisedOf v) largestOrder) = subst T (sym (p .order)) tt in
-      order-limit (normalisedOf v) (normalised-sign v fine-order (and-l (le nothing (normalisedOf v)) (le (normalisedOf v) largestOrder) t)) (and-r (le nothing (normalisedOf v)) (le (normalisedOf v) largestOrder) t)
-
-  pub modulus-limit : Up (argumentsOf v re im .modulus) (2 ^ 16) 1
-  unfolding argumentsOf sizeInside modulusOf
-  modulus-limit =
-      let x = normalisedOf re in
-      let t : T (le (magnitudeOf x) largestPart && le (magnitudeOf im) largestPart) = subst T (sym (p .size)) tt in
-      modulus-up x im (normalised-fits re Fr) Fi fine-re fine-im (part-bound x fine-re (and-l (le (magnitudeOf x) largestPart) (le (magnitudeOf im) largestPart) t)) (part-bound im fine-im (and-r (le (magnitudeOf x) largestPart) (le (magnitudeOf im) largestPart) t))
-
   -- wherever the visit wants a seed and its sum is not 1 at once
   pub admitted-sums-end :
       (scaled : Bool) (i : ℕ) → let a = argumentsOf v re im in let g = groundOf scaled false (a .order) (a .z) (a .modulus) in let u = orderPlusOne (a .order) (walkAfter g (length / 2) i .reached .left - 1) in
@@ -112,7 +28,7 @@ module _ (v re im : Float) (Fr : T (fits binary64 re)) (Fi : T (fits binary64 im
   admitted-sums-end scaled i h e =
       let a = argumentsOf v re im in
       let l = lent length (p .lent) in
-      visit-sums-end scaled false (a .order) (a .z) (a .modulus) (length / 2) order-up modulus-limit (omega arith) (p .series) i h e
+      visit-sums-end scaled false (a .order) (a .z) (a .modulus) (length / 2) (order-up I v re im length p) (modulus-limit I v re im length p Fr Fi) (omega arith) (p .series) i h e
 
 -- the sums of an answered call
 pub answered-sums-end :

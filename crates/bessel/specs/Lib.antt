@@ -5,3 +5,4 @@ pub mod Answer
 pub mod Cells
 pub mod Outcome
 pub mod I
+pub mod K

@@ -5,4 +5,5 @@ pub mod arguments;
 pub mod cells;
 pub mod classify;
 pub mod i;
+pub mod k;
 pub mod outcome;

@@ -16,6 +16,7 @@ ghost use Rattle.rounding.specs.Round.{roundOf};
 ghost use Rattle.gamma_ln.specs.LogGamma.{logGammaOf};
 ghost use Rattle.capi.specs.Outcome.{outcomeOf, isScaled};
 ghost use Rattle.bessel.specs.I.{iOutcome};
+ghost use Rattle.bessel.specs.K.{kOutcome};
 ghost use lib.ListN.{length};
 use bessel::answer::Answer;
 use gamma_ln::log_gamma::log_gamma;
@@ -135,4 +136,12 @@ pub extern "C" fn lichenoar_i(scaled: u8, v: f64, re: f64, im: f64, out: &mut [f
     ensures { λ r. ⌜ (r ≡ iOutcome (isScaled scaled) v re im (length (now (out .entry))) .answer) × (now (out .exit) ≡ iOutcome (isScaled scaled) v re im (length (now (out .entry))) .cells) ⌝ }
 {
     bessel::i::i(scaled != 0, v, re, im, out)
+}
+
+// n orders of K into the 2n lent cells, as for I.
+#[no_mangle]
+pub extern "C" fn lichenoar_k(scaled: u8, v: f64, re: f64, im: f64, out: &mut [f64]) -> Answer
+    ensures { λ r. ⌜ (r ≡ kOutcome (isScaled scaled) v re im (length (now (out .entry))) .answer) × (now (out .exit) ≡ kOutcome (isScaled scaled) v re im (length (now (out .entry))) .cells) ⌝ }
+{
+    bessel::k::k(scaled != 0, v, re, im, out)
 }

@@ -1,0 +1,53 @@
+-- What K's kernel leaves of its counts and cells, and the judgement that follows. Assumes nothing.
+use mathlib.Core.Path.{_≡_, refl, sym, ap, _∙_, subst}
+use mathlib.Core.Bool.{Bool, true, false}
+use mathlib.Core.List.{List}
+use Prim.Native.Nat.{ℕ, _*_, _/_, _≤_}
+use native.Mathlib.Omega.{arith}
+use lib.IntN.{ℤ}
+use lib.ListN.{length as length-of}
+use lib.Ieee.{Float}
+use Rattle.complex.specs.declared.number.Complex.{Complex}
+use Rattle.right_half_plane.specs.declared.kernel.Counts.{Counts}
+use Rattle.right_half_plane.specs.declared.kernel.Outcome as kernels
+use Rattle.right_half_plane.specs.declared.kernel.Outcome.the-variants as ended
+use Rattle.right_half_plane.specs.Kernel.{Kernel, kernelOf, afterIf, afterwards}
+use Rattle.right_half_plane.proofs.Delivered.{Delivers, kernel-delivers}
+use Rattle.bessel.specs.declared.answer.Answer.{Answer}
+use Rattle.bessel.specs.Arguments.{lengthInside}
+use Rattle.bessel.specs.Answer.{signedOf, answeredOf}
+use Rattle.bessel.specs.Outcome.{Outcome, judgedOf}
+use Rattle.bessel.specs.K.{countsAnswer, concludedOf, Fewer}
+use Rattle.bessel.proofs.LengthFacts.{lent}
+
+-- the zeros of an answer into a buffer that is let in
+pub zeros-few : (length : ℕ) (scaled : Bool) (v : Float) (z : Complex) (m : Float) (o : kernels.Outcome) → lengthInside length ≡ true → o ≡ kernelOf scaled v z m (length / 2) .outcome → Fewer o
+zeros-few length scaled v z m o e q = subst Fewer (sym q) (go (k .outcome) (k .cells) (kernel-delivers scaled v z m (length / 2)))
+  where
+    k : Kernel
+    k = kernelOf scaled v z m (length / 2)
+
+    go : (o : kernels.Outcome) (cells : List Float) → Delivers (length / 2) o cells → Fewer o
+    go (ended.Answered c) cells d = let l = lent length e in few (c .zeros) length (l .most) (d .0)
+      where
+        few : (z n : ℕ) → n ≤ 1024 → z ≤ n / 2 → z ≤ 512
+        few z n h d = omega arith
+    go (ended.Refused r) cells d = tt
+
+-- the judgement of an answer, from the parts of which the code makes it
+pub judged-counts : (n : ℕ) (c : Counts) (cells : List Float) (zeros : ℤ) (answer : Answer) → zeros ≡ signedOf false (c .zeros) → answer ≡ answeredOf zeros (c .«longest_sum») (c .rungs) (c .backward) → judgedOf n answer 0 cells ≡ judgedOf n (countsAnswer c) 0 cells
+unfolding countsAnswer
+judged-counts n c cells zeros answer d e = ap (λ (x : Answer). judgedOf n x 0 cells) (e ∙ ap (λ (k : ℤ). answeredOf k (c .«longest_sum») (c .rungs) (c .backward)) d)
+
+-- what a refusal left in the cells has no part in the outcome
+pub concluded-kernel : (length n : ℕ) (k : Kernel) (o : kernels.Outcome) (cells held : List Float) → n ≡ length → o ≡ k .outcome → cells ≡ afterwards k held → concludedOf n o cells ≡ concludedOf length (k .outcome) (k .cells)
+unfolding concludedOf afterwards afterIf
+concluded-kernel length n k o cells held a b c =
+    ap (λ (m : ℕ). concludedOf m o cells) a
+    ∙ ap (λ (p : kernels.Outcome). concludedOf length p cells) b
+    ∙ ap (λ (l : List Float). concludedOf length (k .outcome) l) c
+    ∙ go (k .outcome) (k .cells)
+  where
+    go : (p : kernels.Outcome) (l : List Float) → concludedOf length p (afterIf p l held) ≡ concludedOf length p l
+    go (ended.Answered counts) l = refl
+    go (ended.Refused r) l = refl

@@ -1,0 +1,49 @@
+-- The sign of a zero order or of a zero real part has no part in any outcome. Assumes nothing.
+use mathlib.Core.Path.{_≡_, refl, sym, ap, _∙_}
+use mathlib.Core.Bool.{Bool, true}
+use Prim.Native.Nat.{ℕ}
+use lib.Ieee.{Float, ofBits, eq}
+use Rattle.complex.specs.declared.number.Complex.{Complex}
+use Rattle.complex.specs.Functions.{modulusOf}
+use Rattle.bessel.specs.declared.arguments.Arguments.{Arguments}
+use Rattle.bessel.specs.declared.classify.Kind.the-variants.{K, I}
+use Rattle.bessel.specs.Arguments.{nothing, normalisedOf, argumentsOf}
+use Rattle.bessel.specs.Classify.{verdictOf, classifyOf}
+use Rattle.bessel.specs.I.{iOutcomeOf, iOutcome}
+use Rattle.bessel.specs.K.{kOutcomeOf, kOutcome}
+
+made-zero : (x : Float) → eq x nothing ≡ true → normalisedOf x ≡ nothing
+unfolding normalisedOf
+made-zero x e = rw e
+
+stays-zero : normalisedOf nothing ≡ nothing
+unfolding normalisedOf ofBits eq
+stays-zero = refl
+
+same-zero : (x : Float) → eq x nothing ≡ true → normalisedOf x ≡ normalisedOf nothing
+same-zero x e = made-zero x e ∙ sym stays-zero
+
+order-same : (v re im : Float) → eq v nothing ≡ true → argumentsOf v re im ≡ argumentsOf nothing re im
+unfolding argumentsOf
+order-same v re im e = ap (λ (w : Float). record { order = w; z = record { re = normalisedOf re; im = im }; modulus = modulusOf (record { re = normalisedOf re; im = im }) }) (same-zero v e)
+
+part-same : (v re im : Float) → eq re nothing ≡ true → argumentsOf v re im ≡ argumentsOf v nothing im
+unfolding argumentsOf
+part-same v re im e = ap (λ (x : Float). record { order = normalisedOf v; z = record { re = x; im = im }; modulus = modulusOf (record { re = x; im = im }) }) (same-zero re e)
+
+module _ (scaled : Bool) (v re im : Float) (length : ℕ) where
+  pub k-order : eq v nothing ≡ true → kOutcome scaled v re im length ≡ kOutcome scaled nothing re im length
+  unfolding kOutcome classifyOf
+  k-order e = ap (λ (a : Arguments). kOutcomeOf scaled length (verdictOf K a length)) (order-same v re im e)
+
+  pub k-part : eq re nothing ≡ true → kOutcome scaled v re im length ≡ kOutcome scaled v nothing im length
+  unfolding kOutcome classifyOf
+  k-part e = ap (λ (a : Arguments). kOutcomeOf scaled length (verdictOf K a length)) (part-same v re im e)
+
+  pub i-order : eq v nothing ≡ true → iOutcome scaled v re im length ≡ iOutcome scaled nothing re im length
+  unfolding iOutcome classifyOf
+  i-order e = ap (λ (a : Arguments). iOutcomeOf scaled length (verdictOf I a length)) (order-same v re im e)
+
+  pub i-part : eq re nothing ≡ true → iOutcome scaled v re im length ≡ iOutcome scaled v nothing im length
+  unfolding iOutcome classifyOf
+  i-part e = ap (λ (a : Arguments). iOutcomeOf scaled length (verdictOf I a length)) (part-same v re im e)

@@ -1,0 +1,58 @@
+// The entry point of K: n consecutive orders from v up at z = re + im·i, plain or times e^z, into the lent cells, re before im.
+// From src/amos/right_half_plane.rs, k_right_half_plane (ZBKNU), behind the checks that docs/SCOPE.md settles.
+// Promised for every input: kOutcome of specs/K.antt, the record and every cell.
+ghost use mathlib.Core.Path.{_≡_};
+ghost use mathlib.Core.Bool.{true};
+ghost use Prim.Native.Nat.{_≤_};
+ghost use lib.Dec.{T};
+ghost use lib.Ieee.{le};
+ghost use lib.ListN.{length};
+ghost use Rattle.laws.proofs.Relative.{nonnegative};
+ghost use Rattle.right_half_plane.specs.Kernel.{afterwards};
+ghost use Rattle.bessel.specs.Arguments.{largestOrder, lengthInside};
+ghost use Rattle.bessel.specs.K.{Fewer, concludedOf, kernelOutcome, kOutcome};
+use crate::answer::Answer;
+use crate::answer::answered;
+use crate::answer::signed;
+use crate::arguments::Arguments;
+use crate::classify::Kind;
+use crate::classify::Verdict;
+use crate::classify::classify;
+use crate::outcome::judge;
+use crate::outcome::refuse;
+use right_half_plane::kernel::Outcome;
+use right_half_plane::kernel::k_right_half_plane;
+
+// Every entry of an answer is finished; a refusal has left the cells as they were, and they are filled here.
+fn concluded(outcome: Outcome, out: &mut [f64]) -> Answer
+    requires { ⌜ Fewer outcome ⌝ }
+    ensures { λ r. ⌜ (r ≡ concludedOf (length (now (out .entry))) outcome (now (out .entry)) .answer) × (now (out .exit) ≡ concludedOf (length (now (out .entry))) outcome (now (out .entry)) .cells) ⌝ }
+{
+    match outcome {
+        Outcome::Answered(c) => judge(
+            answered(signed(false, c.zeros), c.longest_sum, c.rungs, c.backward),
+            0,
+            out,
+        ),
+        Outcome::Refused(refusal) => refuse(refusal, out),
+    }
+}
+
+fn by_kernel(scaled: bool, a: Arguments, out: &mut [f64]) -> Answer
+    requires { ⌜ (lengthInside (length (now out)) ≡ true) × T (nonnegative (a .order)) × T (le (a .order) largestOrder) ⌝ }
+    ensures { λ r. ⌜ (r ≡ kernelOutcome scaled a (length (now (out .entry))) .answer) × (now (out .exit) ≡ kernelOutcome scaled a (length (now (out .entry))) .cells) ⌝ }
+{
+    let z = a.z;
+    let outcome = k_right_half_plane(scaled, a.order, z, a.modulus, out);
+    concluded(outcome, out)
+}
+
+pub fn k(scaled: bool, v: f64, re: f64, im: f64, out: &mut [f64]) -> Answer
+    ensures { λ r. ⌜ (r ≡ kOutcome scaled v re im (length (now (out .entry))) .answer) × (now (out .exit) ≡ kOutcome scaled v re im (length (now (out .entry))) .cells) ⌝ }
+{
+    let verdict = classify(Kind::K, v, re, im, out.len());
+    match verdict {
+        Verdict::Admitted(a) => by_kernel(scaled, a, out),
+        Verdict::Refused(refusal) => refuse(refusal, out),
+    }
+}

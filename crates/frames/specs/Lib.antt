@@ -1,0 +1,6 @@
+-- The definitions, by topic.
+pub mod Layout
+pub mod Digits
+pub mod Over
+pub mod Asking
+pub mod AnswerLine

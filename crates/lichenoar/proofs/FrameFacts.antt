@@ -1,0 +1,116 @@
+-- A frame and its newline taken at once: what the bytes one by one come to. Assumes nothing.
+use mathlib.Core.Path.{_≡_, refl, sym, ap, _∙_, subst}
+use mathlib.Core.Bool.{Bool, true, false, _&&_}
+use mathlib.Core.List.{List, [], _∷_, _++_, append-assoc, append-nil}
+use Prim.Native.Nat.{ℕ, zero, suc, _+_, _-_, _≤_, _<_}
+use native.Mathlib.Omega.{arith}
+use borrow.Author.Tests.{le-leb, lt-leb, eq-eqb, ne-eqb}
+use lib.Dec.{T, eqb, leb, eqb→eq, leb→le}
+use lib.Ieee.Fits.{and-l, and-r}
+use lib.ListN.{length, take, drop, getD, length-append, length-drop}
+use lib.Seq.{take-all, take-suc, take-add, getD-drop, length-take-le, drop-drop}
+use Rattle.frames.specs.Digits.{isDigit, areDigits}
+use Rattle.lichenoar.specs.Lines.{newline}
+use Rattle.lichenoar.specs.Feed.{mostHeld, Feed, closedOf, stepOf, fedOf, feedOf, frameAhead}
+use Rattle.lichenoar.proofs.FeedFacts.{feed, step-newline, step-other, fed-append, fed-snoc}
+
+-- ---- digits are held one by one
+newline-no-digit : isDigit newline ≡ false
+unfolding isDigit
+newline-no-digit = refl
+
+digit-no-newline : (c : ℕ) → T (isDigit c) → c ≡ newline → ⊥
+digit-no-newline c t e = subst T (ap isDigit e ∙ newline-no-digit) t
+
+pub digits-held : (D h w : List ℕ) → T (areDigits D) → length h + length D ≤ mostHeld → fedOf (feed h w) D ≡ feed (h ++ D) w
+unfolding fedOf areDigits
+digits-held [] h w t n = ap (λ (l : List ℕ). feed l w) (sym (append-nil h))
+digits-held (c ∷ D) h w t n =
+    let more : length (h ++ (c ∷ [])) ≡ length h + 1 = length-append h (c ∷ []) in
+    ap (λ (s : Feed). fedOf s D) (step-other (feed h w) c (digit-no-newline c (and-l (isDigit c) (areDigits D) t)) ∙ ap (λ (l : List ℕ). feed l w) (take-all mostHeld (h ++ (c ∷ [])) (omega (arith, more, n))))
+    ∙ digits-held D (h ++ (c ∷ [])) w (and-r (isDigit c) (areDigits D) t) (omega (arith, more, n))
+    ∙ ap (λ (l : List ℕ). feed l w) (append-assoc h (c ∷ []) D)
+
+-- ---- what is known where a frame comes next
+pub record Ahead (chunk : List ℕ) (at : ℕ) : Type 0 where
+  pub room : at + 57 ≤ length chunk
+  pub ended : getD chunk (at + 56) 0 ≡ newline
+  pub digits : T (areDigits (take 56 (drop at chunk)))
+
+pub ahead : (chunk : List ℕ) (at : ℕ) → frameAhead chunk at ≡ true → Ahead chunk at
+unfolding frameAhead
+ahead chunk at e =
+    let p = leb (at + 57) (length chunk) in
+    let q = eqb (getD chunk (at + 56) 0) newline in
+    let r = areDigits (take 56 (drop at chunk)) in
+    let t : T (p && (q && r)) = subst T (sym e) tt in
+    let u : T (q && r) = and-r p (q && r) t in
+    record { room = leb→le (at + 57) (length chunk) (and-l p (q && r) t); ended = eqb→eq (getD chunk (at + 56) 0) newline (and-l q r u); digits = and-r q r u }
+
+module _ (chunk : List ℕ) (at : ℕ) (a : Ahead chunk at) where
+  left : 57 ≤ length (drop at chunk)
+  left = omega (arith, length-drop at chunk, a .room)
+
+  pub frame-length : length (take 56 (drop at chunk)) ≡ 56
+  frame-length = length-take-le 56 (drop at chunk) (omega (arith, left))
+
+  line-bytes : take 57 (drop at chunk) ≡ take 56 (drop at chunk) ++ (newline ∷ [])
+  line-bytes = take-suc (drop at chunk) 56 0 (omega (arith, left)) ∙ ap (λ (b : ℕ). take 56 (drop at chunk) ++ (b ∷ [])) (getD-drop at chunk 56 0 ∙ a .ended)
+
+  pub frame-fed : (w : List ℕ) → fedOf (feed [] w) (take 57 (drop at chunk)) ≡ feed [] (closedOf (take 56 (drop at chunk)) w)
+  frame-fed w =
+      let D = take 56 (drop at chunk) in
+      ap (fedOf (feed [] w)) line-bytes
+      ∙ fed-snoc (feed [] w) D newline
+      ∙ ap (λ (s : Feed). stepOf s newline) (digits-held D [] w (a .digits) (omega (arith, frame-length)))
+      ∙ step-newline (feed D w) newline refl
+
+-- ---- the bytes taken so far, and some more
+pub taken-more : (l : List ℕ) (from at next : ℕ) → from ≤ at → at ≤ next → take (at - from) (drop from l) ++ take (next - at) (drop at l) ≡ take (next - from) (drop from l)
+taken-more l from at next h k =
+    let j = at - from in
+    let same : from + j ≡ at = omega arith in
+    let all : j + (next - at) ≡ next - from = omega arith in
+    ap (λ (r : List ℕ). take j (drop from l) ++ take (next - at) r) (sym (drop-drop j from l ∙ ap (λ (m : ℕ). drop m l) same))
+    ∙ sym (take-add j (next - at) (drop from l))
+    ∙ ap (λ (m : ℕ). take m (drop from l)) all
+
+-- ---- the tests in their order
+pub not-long : (chunk : List ℕ) (at : ℕ) → length chunk - at < 57 → frameAhead chunk at ≡ false
+unfolding frameAhead
+not-long chunk at h = simp (lt-leb (at + 57) (length chunk) (omega arith))
+
+pub not-ended : (chunk : List ℕ) (at : ℕ) → (getD chunk (at + 56) 0 ≡ newline → ⊥) → frameAhead chunk at ≡ false
+unfolding frameAhead
+not-ended chunk at h = ap (λ (b : Bool). leb (at + 57) (length chunk) && (b && areDigits (take 56 (drop at chunk)))) (ne-eqb (getD chunk (at + 56) 0) newline h) ∙ none (leb (at + 57) (length chunk))
+  where
+    none : (b : Bool) → (b && false) ≡ false
+    none true = refl
+    none false = refl
+
+pub by-digits : (chunk : List ℕ) (at n : ℕ) (b : Bool) → b ≡ areDigits (take n (drop at chunk)) → n ≡ 56 → 57 ≤ length chunk - at → at < length chunk → getD chunk (at + 56) 0 ≡ newline → b ≡ frameAhead chunk at
+unfolding frameAhead
+by-digits chunk at n b e m h l g =
+    e
+    ∙ ap (λ (k : ℕ). areDigits (take k (drop at chunk))) m
+    ∙ sym (ap (λ (t : Bool). t && (eqb (getD chunk (at + 56) 0) newline && areDigits (take 56 (drop at chunk)))) (le-leb (at + 57) (length chunk) (omega arith)) ∙ ap (λ (t : Bool). t && areDigits (take 56 (drop at chunk))) (eq-eqb (getD chunk (at + 56) 0) newline g))
+
+-- ---- a frame closed where it stands, and a byte
+pub frame-taken : (chunk line out w : List ℕ) (at held filled m n : ℕ) → Ahead chunk at → held ≡ 0 → m ≡ 56 → n ≡ 57 → w ≡ closedOf (take 56 (take m (drop at chunk))) (take filled out) → feed (take held line) w ≡ fedOf (feedOf line held out filled) (take n (drop at chunk))
+frame-taken chunk line out w at held filled m n a z p q e =
+    let D = take 56 (drop at chunk) in
+    let same : take 56 (take m (drop at chunk)) ≡ D = ap (λ (k : ℕ). take 56 (take k (drop at chunk))) p ∙ take-all 56 D (omega (arith, frame-length chunk at a)) in
+    ap (λ (k : ℕ). feed (take k line) w) z
+    ∙ ap (feed []) (e ∙ ap (λ (l : List ℕ). closedOf l (take filled out)) same)
+    ∙ sym (frame-fed chunk at a (take filled out))
+    ∙ sym (ap (λ (k : ℕ). fedOf (feed (take k line) (take filled out)) (take 57 (drop at chunk))) z)
+    ∙ sym (ap (λ (k : ℕ). fedOf (feedOf line held out filled) (take k (drop at chunk))) q)
+
+pub byte-taken : (chunk : List ℕ) (s : Feed) (at n : ℕ) → at < length chunk → n ≡ 1 → stepOf s (getD chunk at 0) ≡ fedOf s (take n (drop at chunk))
+unfolding fedOf
+byte-taken chunk s at n h e =
+    let none : at + 0 ≡ at = omega arith in
+    sym
+    (ap (λ (k : ℕ). fedOf s (take k (drop at chunk))) e
+    ∙ ap (fedOf s) (take-suc (drop at chunk) 0 0 (omega (arith, length-drop at chunk)))
+    ∙ ap (stepOf s) (getD-drop at chunk 0 0 ∙ ap (λ (k : ℕ). getD chunk k 0) none))

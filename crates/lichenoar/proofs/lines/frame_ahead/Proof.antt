@@ -1,0 +1,48 @@
+-- `lichenoar::lines::frame_ahead` meets its contract, test by test. Assumes nothing.
+use mathlib.Core.Path.{sym}
+use Prim.Native.Nat.{_+_, _-_}
+use native.Mathlib.Omega.{arith}
+use borrow.Author.Needs.{needs}
+use Rattle.lichenoar.proofs.FrameFacts.{not-long, not-ended, by-digits}
+use Rattle.lichenoar.proofs.lines.frame_ahead.Statement.{statement}
+use Rattle.lichenoar.proofs.lines.frame_ahead.Tie as tie
+
+sub-if1 : tie.Need-sub-if1
+sub-if1 c = search needs
+
+returns : tie.Need-returns
+returns c = sym (not-long _ _ (c .if1 .taken))
+
+add-if2 : tie.Need-add-if2
+add-if2 c = search needs
+
+shared-slice-read-if2 : tie.Need-shared-slice-read-if2
+shared-slice-read-if2 c = search needs
+
+returns-2 : tie.Need-returns-2
+returns-2 c = sym (not-ended _ _ (c .if2 .taken))
+
+add-are-digits : tie.Need-add-are-digits
+add-are-digits c = search needs
+
+sub-are-digits : tie.Need-sub-are-digits
+sub-are-digits c = search needs
+
+part-are-digits-start : tie.Need-part-are-digits-start
+part-are-digits-start c = search needs
+
+part-are-digits-end : tie.Need-part-are-digits-end
+part-are-digits-end c = search needs
+
+are-digits-requires : tie.Need-are-digits-requires
+are-digits-requires c κs = search needs
+
+returns-3 : tie.Need-returns-3
+returns-3 c =
+    let i = c .before .before in
+    let j = i .before .before in
+    let s = j .before .before in
+    by-digits (s .args .chunk .now) (s .args .at) (s .args .at + 56 - s .args .at) _ (c .are-digits .ensures) (omega arith) (j .if1 .left) (s .pre) (i .if2 .left)
+
+pub frame-ahead-spec : {M : Type 1} → statement M
+frame-ahead-spec = tie.close (tie.spec sub-if1 returns add-if2 shared-slice-read-if2 returns-2 add-are-digits sub-are-digits part-are-digits-start part-are-digits-end are-digits-requires returns-3)

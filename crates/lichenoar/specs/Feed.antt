@@ -1,0 +1,57 @@
+-- The input byte by byte, cut anywhere: what is held of the line that is being read, never more than 57 bytes, and what is written. Definitions only.
+use mathlib.Core.Bool.{Bool, true, false, _&&_}
+use mathlib.Core.List.{List, [], _∷_, _++_}
+use Prim.Native.Nat.{ℕ, _+_, _≤_}
+use mathlib.Core.Path.{_≡_}
+use lib.Dec.{eqb, leb}
+use lib.ListN.{length, take, drop, getD}
+use Rattle.frames.specs.Digits.{areDigits}
+use Rattle.frames.specs.AnswerLine.{answerLineOf}
+use Rattle.lichenoar.specs.Lines.{newline}
+
+-- one byte more than a frame has: a line that is as long or longer is malformed, whatever follows
+abbrev pub mostHeld : ℕ
+mostHeld = 57
+
+-- the longest answer line and its newline
+abbrev pub mostRoom : ℕ
+mostRoom = 16403
+
+pub record Feed : Type 0 where
+  pub held : List ℕ
+  pub written : List ℕ
+
+unfoldable pub closedOf : List ℕ → List ℕ → List ℕ
+closedOf held written = written ++ (answerLineOf held ++ (newline ∷ []))
+
+unfoldable pub stepIf : Bool → Feed → ℕ → Feed
+stepIf true s b = record { held = []; written = closedOf (s .held) (s .written) }
+stepIf false s b = record { held = take mostHeld (s .held ++ (b ∷ [])); written = s .written }
+
+unfoldable pub stepOf : Feed → ℕ → Feed
+stepOf s b = stepIf (eqb b newline) s b
+
+unfoldable pub fedOf : Feed → List ℕ → Feed
+fedOf s [] = s
+fedOf s (b ∷ bs) = fedOf (stepOf s b) bs
+
+-- at the end of the input: what is held is a last line, unless it is empty
+unfoldable pub endedFrom : List ℕ → List ℕ → List ℕ
+endedFrom [] written = written
+endedFrom (b ∷ bs) written = closedOf (b ∷ bs) written
+
+unfoldable pub endedOf : Feed → List ℕ
+endedOf s = endedFrom (s .held) (s .written)
+
+-- two buffers and how much of each counts
+abbrev pub feedOf : List ℕ → ℕ → List ℕ → ℕ → Feed
+feedOf line held out filled = record { held = take held line; written = take filled out }
+
+pub record Within (line : List ℕ) (held : ℕ) (out : List ℕ) (filled : ℕ) : Type 0 where
+  pub long : length line ≡ mostHeld
+  pub few : held ≤ mostHeld
+  pub room : filled ≤ length out
+
+-- from an index on: 56 digits, and a newline behind them
+unfoldable pub frameAhead : List ℕ → ℕ → Bool
+frameAhead chunk at = leb (at + 57) (length chunk) && (eqb (getD chunk (at + 56) 0) newline && areDigits (take 56 (drop at chunk)))

@@ -1,0 +1,142 @@
+// Bytes of the input taken in order: kept, or the line closed and its answer line written behind the ones before, with its newline.
+// Promised: fedOf of specs/Feed.antt. Of a long line the first 57 bytes are kept, which say all that its answer depends on.
+ghost use mathlib.Core.Path.{_≡_};
+ghost use mathlib.Core.List.{[], _∷_, _++_};
+ghost use Prim.Native.Nat.{_+_, _-_, _≤_, _<_};
+ghost use lib.ListN.{length, take, drop};
+ghost use Rattle.lichenoar.specs.Feed.{mostHeld, mostRoom, closedOf, stepOf, fedOf, feedOf, Within, frameAhead};
+use frames::digits::are_digits;
+use frames::line::answer_line;
+
+const NEWLINE: u8 = 10;
+
+const MOST_HELD: usize = 57;
+
+// a frame's digits, and with its newline
+const FRAME_LENGTH: usize = 56;
+
+const LINE_LENGTH: usize = 57;
+
+const MOST_ROOM: usize = 16403;
+
+pub struct Place {
+    pub held: usize,
+    pub filled: usize,
+}
+
+// The next byte to take, and how much of the buffers counts then.
+pub struct Progress {
+    pub at: usize,
+    pub held: usize,
+    pub filled: usize,
+}
+
+pub fn close_line(line: &[u8], held: usize, out: &mut [u8], filled: usize) -> usize
+    requires { ⌜ (held ≤ length (now line)) × (filled + mostRoom ≤ length (now out)) ⌝ }
+    ensures { λ r. ⌜ (r ≤ length (now (out .exit))) × (take r (now (out .exit)) ≡ closedOf (take held (now (line .entry))) (take filled (now (out .entry)))) ⌝ }
+{
+    let n = answer_line(&line[0..held], &mut out[filled..]);
+    let end = filled + n;
+    out[end] = NEWLINE;
+    end + 1
+}
+
+fn keep_byte(b: u8, line: &mut [u8], held: usize) -> usize
+    requires { ⌜ (length (now line) ≡ mostHeld) × (held ≤ mostHeld) ⌝ }
+    ensures { λ r. ⌜ (r ≤ mostHeld) × (take r (now (line .exit)) ≡ take mostHeld (take held (now (line .entry)) ++ (b ∷ []))) ⌝ }
+{
+    if held < MOST_HELD {
+        line[held] = b;
+        return held + 1;
+    }
+    held
+}
+
+fn take_byte(b: u8, line: &mut [u8], held: usize, out: &mut [u8], filled: usize) -> Place
+    requires { ⌜ (length (now line) ≡ mostHeld) × (held ≤ mostHeld) × (filled + mostRoom ≤ length (now out)) ⌝ }
+    ensures { λ r. ⌜ Within (now (line .exit)) (r .held) (now (out .exit)) (r .filled) × (feedOf (now (line .exit)) (r .held) (now (out .exit)) (r .filled) ≡ stepOf (feedOf (now (line .entry)) held (now (out .entry)) filled) b) ⌝ }
+{
+    if b == NEWLINE {
+        let end = close_line(line, held, out, filled);
+        return Place {
+            held: 0,
+            filled: end,
+        };
+    }
+    Place {
+        held: keep_byte(b, line, held),
+        filled,
+    }
+}
+
+// Whether a frame's digits and a newline come next: then the line need not be held, and is answered where it stands.
+fn frame_ahead(chunk: &[u8], at: usize) -> bool
+    requires { ⌜ at < length (now chunk) ⌝ }
+    ensures { λ r. ⌜ r ≡ frameAhead (now (chunk .entry)) at ⌝ }
+{
+    if chunk.len() - at < LINE_LENGTH {
+        return false;
+    }
+    if chunk[at + FRAME_LENGTH] != NEWLINE {
+        return false;
+    }
+    are_digits(&chunk[at..at + FRAME_LENGTH])
+}
+
+// A whole frame with its newline where nothing is held, and else one byte.
+fn take_some(
+    chunk: &[u8],
+    at: usize,
+    line: &mut [u8],
+    held: usize,
+    out: &mut [u8],
+    filled: usize,
+) -> Progress
+    requires { ⌜ (at < length (now chunk)) × (length (now line) ≡ mostHeld) × (held ≤ mostHeld) × (filled + mostRoom ≤ length (now out)) ⌝ }
+    ensures { λ r. ⌜ (at < r .at) × (r .at ≤ length (now (chunk .entry))) × Within (now (line .exit)) (r .held) (now (out .exit)) (r .filled) × (feedOf (now (line .exit)) (r .held) (now (out .exit)) (r .filled) ≡ fedOf (feedOf (now (line .entry)) held (now (out .entry)) filled) (take (r .at - at) (drop at (now (chunk .entry))))) ⌝ }
+{
+    if held == 0 {
+        if frame_ahead(chunk, at) {
+            let end = close_line(&chunk[at..at + FRAME_LENGTH], FRAME_LENGTH, out, filled);
+            return Progress {
+                at: at + LINE_LENGTH,
+                held,
+                filled: end,
+            };
+        }
+    }
+    let place = take_byte(chunk[at], line, held, out, filled);
+    Progress {
+        at: at + 1,
+        held: place.held,
+        filled: place.filled,
+    }
+}
+
+// Takes the bytes of a chunk from an index on, until none is left or the room might not do for another answer line.
+pub fn advance(chunk: &[u8], from: usize, line: &mut [u8], held: usize, out: &mut [u8]) -> Progress
+    requires { ⌜ (from < length (now chunk)) × (length (now line) ≡ mostHeld) × (held ≤ mostHeld) × (mostRoom ≤ length (now out)) ⌝ }
+    ensures { λ r. ⌜ (from < r .at) × (r .at ≤ length (now (chunk .entry))) × Within (now (line .exit)) (r .held) (now (out .exit)) (r .filled) × (feedOf (now (line .exit)) (r .held) (now (out .exit)) (r .filled) ≡ fedOf (feedOf (now (line .entry)) held (now (out .entry)) 0) (take (r .at - from) (drop from (now (chunk .entry))))) ⌝ }
+{
+    let mut at = from;
+    let mut kept = held;
+    let mut filled = 0;
+    while at < chunk.len() {
+        if out.len() - filled < MOST_ROOM {
+            return Progress {
+                at,
+                held: kept,
+                filled,
+            };
+        }
+        let next = take_some(chunk, at, line, kept, out, filled);
+        kept = next.held;
+        filled = next.filled;
+        at = next.at;
+    }
+    Progress {
+        at,
+        held: kept,
+        filled,
+    }
+}

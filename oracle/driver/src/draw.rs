@@ -168,6 +168,9 @@ pub fn call_k(d: &mut Draw) -> Call {
     Call { scaled, v, re, im, length: length(d) }
 }
 
+/// The branches of I that no edge reaches: a visit stopped at a lost value.
+pub const DEEP: u64 = 1 << 6;
+
 pub fn call_i(d: &mut Draw) -> Call {
     let scaled = d.below(2) == 0;
     let v = order(d);
@@ -236,5 +239,88 @@ pub fn i_edges() -> Vec<Call> {
     both(1.0, 0.0, 0.0, 4);
     both(0.0, -0.0, -0.0, 4);
     both(-0.0, 0.0, 0.0, 2);
+    out
+}
+
+/// The calls of K that every run begins with: every length of a buffer from 0 to 1,030 in each way of seeding, the moduli that the kernel tests by single patterns, in
+/// every direction and with im ±0 and tiny, whole and half orders with their neighbours, the refusals' edges, zero pairs, and the smallest arguments.
+pub fn k_edges() -> Vec<Call> {
+    let bits = f64::from_bits;
+    let by = |x: f64, step: i64| bits((x.to_bits() as i64 + step) as u64);
+    let mut out = Vec::new();
+    let mut both = |v: f64, re: f64, im: f64, length: usize| {
+        for scaled in [false, true] {
+            out.push(Call { scaled, v, re, im, length });
+        }
+    };
+    for length in 0..=1030 {
+        both(0.25, 1.25, -0.75, length);
+        both(3.5, 0.5, 40.0, length);
+        both(7.75, 20.0, -15.0, length);
+        both(600.25, 900.0, 3.0, length);
+        both(0.0, 800.0, 0.0, length);
+    }
+    let tiny = [0.0, -0.0, 5e-324, -5e-324, 1e-300, -1e-20];
+    let far = bits(0x403C_AAAA_AAAA_AAAA);
+    for edge in [2.0, far, 664.8716455337102, 700.9217936944459, 1000.0 * f64::MIN_POSITIVE, f64::EPSILON, 32768.0] {
+        for step in -24i64..=24 {
+            let m = by(edge, step);
+            for v in [0.0, 0.25, 0.5, 0.75, 1.0, 2.5, 17.125] {
+                for im in tiny {
+                    both(v, m, im, 4);
+                }
+                both(v, 0.0, m, 2);
+                both(v, 0.0, -m, 6);
+                both(v, m * 0.6, m * 0.8, 4);
+                both(v, m * 0.8, m * -0.6, 4);
+            }
+        }
+    }
+    for half in 0..=2000u32 {
+        let v = half as f64 / 2.0;
+        for step in if half == 0 { 0..=2 } else { -2..=2 } {
+            both(by(v, step), 1.5, 0.5, 4);
+            both(by(v, step), 9.0, -3.0, 2);
+        }
+    }
+    for (edge, v, length) in [(bits(0x4084_C6F9_214B_27EB), 1.0, 4), (bits(0x1FF6_A09E_667F_3BCC), 2.0, 2), (bits(0x4075_DEB5_36BF_7760), 1000.0, 2), (bits(0x0010_0000_0000_0000), 0.0, 2), (bits(0x0008_0000_0000_0000), 0.0, 2)] {
+        for step in -40i64..=40 {
+            for im in tiny {
+                both(v, by(edge, step), im, length);
+                both(v, by(edge, step), im, length + 2);
+            }
+        }
+    }
+    for step in -40i64..=40 {
+        for turn in [1.0, -1.0] {
+            both(bits(0x408B_3400_0000_0001), 0.0, turn * by(bits(0x403C_AAAA_AAAA_AAAB), step), 2);
+            both(bits(0x408B_3400_0000_0001), f64::EPSILON, turn * by(bits(0x403C_AAAA_AAAA_AAAB), step), 2);
+            both(989.0, by(bits(0x4093_F7CF_41F2_2098), step), turn * bits(0x401C_2E2D_F410_B960), 2);
+            both(bits(0x3FE4_0BB0_4546_2AA4), bits(0x0003_097A_26B1_16A6), turn * by(bits(0x0006_AA15_9D31_2637), step), 2);
+        }
+    }
+    for re in 640..=1200 {
+        for v in [0.0, 0.5, 1.0, 2.0, 130.25, 500.0, 927.0, 999.5, 1000.0] {
+            for n in [1, 2, 3, 512] {
+                both(v, re as f64, 0.0, 2 * n);
+                both(v, re as f64 + 0.375, 17.0, 2 * n);
+            }
+        }
+    }
+    for place in 0..1075u64 {
+        let x = if place < 52 { bits(1 << place) } else { bits((place - 51) << 52) };
+        for v in [0.0, 0.25, 0.5, 0.75, 1.0] {
+            both(v, x, 0.0, 2);
+            both(v, 0.0, -x, 4);
+            both(v, x, x, 6);
+        }
+    }
+    both(0.0, 0.0, 0.0, 2);
+    both(f64::NAN, 0.0, 0.0, 2);
+    both(1.0, -5e-324, 0.0, 2);
+    both(-0.0, -0.0, -0.0, 4);
+    both(0.3, 1.0, -0.0, 6);
+    both(0.3, 1.0, 0.0, 6);
+    both(5e-324, 0.3, 0.0, 2);
     out
 }

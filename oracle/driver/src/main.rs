@@ -1,9 +1,11 @@
 //! oracle ENTRY COUNT SEED: compares an entry point of libcapi.a (log_gamma, i, k) with the Rust text, bit for bit: values, counts, refusal numbers and every
 //! cell of a buffer that was filled with rubbish first. ENTRY `text-i` or `text-k` compares the text with its counted copy alone. The structured inputs come first
-//! where there are any, then COUNT random ones by SEED. `record` in the place of an ENTRY prints COUNT recorded answers of log-gamma, for a replay without Rust. A difference prints the call in hexadecimal and fails the run. At the end: refusals by number, the largest
+//! where there are any, then COUNT random ones by SEED. `record` in the place of an ENTRY prints COUNT recorded answers of log-gamma, and `frames` COUNT asking frames each with
+//! its answer line, for replays without Rust. A difference prints the call in hexadecimal and fails the run. At the end: refusals by number, the largest
 //! counts, and how often each branch was taken; a branch that the domain reaches and the run did not is a failure too.
 
 mod draw;
+mod frames;
 mod port;
 mod reference;
 
@@ -12,7 +14,7 @@ use reference::Kind;
 use std::process::exit;
 
 /// The branches of the counted copy (generate.py has the same numbers): for each, the name, and which entry point reaches it.
-const BRANCHES: [(u32, &str, &str); 35] = [
+pub const BRANCHES: [(u32, &str, &str); 35] = [
     (0, "I below the underflow limit", "i"),
     (2, "I order below the exponent limit", "i"),
     (3, "I stopped at a zeroed order", "i"),
@@ -139,12 +141,16 @@ fn record(count: u64, d: &mut Draw) {
 fn main() {
     let a: Vec<String> = std::env::args().skip(1).collect();
     let (Some(entry), Some(count), Some(seed)) = (a.first(), a.get(1).and_then(|s| s.parse::<u64>().ok()), a.get(2).and_then(|s| s.parse::<u64>().ok())) else {
-        eprintln!("usage: oracle log_gamma|i|k|text-i|text-k|record COUNT SEED");
+        eprintln!("usage: oracle log_gamma|i|k|text-i|text-k|record|frames COUNT SEED");
         exit(2);
     };
     let mut d = Draw::new(seed);
     if entry == "record" {
         record(count, &mut d);
+        return;
+    }
+    if entry == "frames" {
+        frames::print(count, &mut d);
         return;
     }
     println!("oracle {entry}: {count} random calls by the seed {seed}");
@@ -162,7 +168,7 @@ fn main() {
         }
         "i" | "k" => {
             let kind = if name == "i" { Kind::I } else { Kind::K };
-            for c in if kind == Kind::I { draw::i_edges() } else { Vec::new() } {
+            for c in if kind == Kind::I { draw::i_edges() } else { draw::k_edges() } {
                 bessel(kind, &c, 0x7FF0_0000_0000_0001, name == entry, &mut t);
             }
             for _ in 0..count {

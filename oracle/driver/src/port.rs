@@ -1,4 +1,4 @@
-//! The entry points of libcapi.a. `None` where it has none yet: the two copies of the text are then compared with each other alone.
+//! The entry points of libcapi.a; `None` for one that the build left out, which fails the run.
 #![allow(unused_variables, dead_code)]
 
 use crate::draw::Call;

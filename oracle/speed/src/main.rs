@@ -1,6 +1,7 @@
-//! Times log-gamma and I of libcapi.a against the Rust text over std's functions, on the same arguments, in one process, interleaved, best of many rounds.
-//! Log-gamma, throughput: independent calls; latency: each argument waits for the value before it. I: the whole entry point, every check and the record included, against
-//! the text's power series alone, on workloads d (v=0, n=1, |z| ≤ 2) and D (the same, n=10).
+//! Times log-gamma, I and K of libcapi.a against the Rust text over std's functions, on the same arguments, in one process, interleaved, best of many rounds.
+//! Log-gamma, throughput: independent calls; latency: each argument waits for the value before it. I and K: the whole entry point, every check and the record included,
+//! against the text's kernel alone. The workloads: K scaled, a: v=0, n=2, re=im from 2^-7 to 2^6; b: v<50, n=10, |z| from 0.1 to 50; B: as b, unscaled; c: v=1000, n=512,
+//! |z| from 1,700 to 3,000. I unscaled, v=0, |z| ≤ 2, d: n=1; D: n=10. `speed ROUNDS LETTERS` times those workloads alone.
 
 use std::hint::black_box;
 use std::time::Instant;
@@ -25,6 +26,15 @@ extern "C" {
     fn lichenoar_log_gamma(x: f64) -> LogGamma;
     // its record comes back through the first pointer, as in the oracle's port.rs
     fn lichenoar_i(answer: *mut Answer, scaled: u8, v: f64, re: f64, im: f64, out: *mut f64, length: usize) -> *mut Answer;
+    fn lichenoar_k(answer: *mut Answer, scaled: u8, v: f64, re: f64, im: f64, out: *mut f64, length: usize) -> *mut Answer;
+}
+
+type Entry = unsafe extern "C" fn(*mut Answer, u8, f64, f64, f64, *mut f64, usize) -> *mut Answer;
+
+struct Ask {
+    v: f64,
+    re: f64,
+    im: f64,
 }
 
 /// splitmix64, seeded by the workload's letter; points of the right half disc by rejection, so that no function of a library but sqrt is asked.
@@ -34,12 +44,15 @@ impl Workload {
     fn new(letter: char) -> Self {
         Workload(0x6B65_7276_0000_0000 + letter as u64)
     }
-    fn unit(&mut self) -> f64 {
+    fn raw(&mut self) -> u64 {
         self.0 = self.0.wrapping_add(0x9E37_79B9_7F4A_7C15);
         let mut x = self.0;
         x = (x ^ (x >> 30)).wrapping_mul(0xBF58_476D_1CE4_E5B9);
         x = (x ^ (x >> 27)).wrapping_mul(0x94D0_49BB_1331_11EB);
-        ((x ^ (x >> 31)) >> 11) as f64 * 2f64.powi(-53)
+        x ^ (x >> 31)
+    }
+    fn unit(&mut self) -> f64 {
+        (self.raw() >> 11) as f64 * 2f64.powi(-53)
     }
     fn point(&mut self, radius: f64) -> (f64, f64) {
         loop {
@@ -53,31 +66,54 @@ impl Workload {
     }
 }
 
-fn series(letter: char, n: usize, rounds: usize) {
+fn asks(letter: char, count: usize) -> Vec<Ask> {
     let mut w = Workload::new(letter);
-    let points: Vec<(f64, f64)> = (0..ARGUMENTS)
+    (0..count)
         .map(|_| {
-            let r = 2.0 * w.unit();
-            w.point(r)
+            let (v, r) = match letter {
+                'a' => {
+                    let e = -7 + (w.raw() % 13) as i32;
+                    let m = (1.0 + w.unit()) * 2f64.powi(e);
+                    return Ask { v: 0.0, re: m, im: m };
+                }
+                'b' | 'B' => (50.0 * w.unit(), 0.1 + 49.9 * w.unit()),
+                'c' => (1000.0, 1700.0 + 1300.0 * w.unit()),
+                _ => (0.0, 2.0 * w.unit()),
+            };
+            let (re, im) = w.point(r);
+            Ask { v, re, im }
         })
-        .collect();
+        .collect()
+}
+
+fn workload(letter: char, n: usize, rounds: usize) {
+    let is_k = !matches!(letter, 'd' | 'D');
+    let scaled = matches!(letter, 'a' | 'b' | 'c');
+    let (entry, scaling): (Entry, _) = (if is_k { lichenoar_k } else { lichenoar_i }, if scaled { native::Scaling::Scaled } else { native::Scaling::Unscaled });
+    let calls = if n > 100 { 64 } else { ARGUMENTS };
+    let asks = asks(letter, calls);
     let mut cells = vec![0.0; 2 * n];
     let mut entries = vec![native_complex(0.0, 0.0); n];
     let mut best = [f64::INFINITY; 2];
     for _ in 0..rounds {
         let begun = Instant::now();
-        for (re, im) in &points {
+        for q in &asks {
             let mut answer = Answer::default();
-            unsafe { lichenoar_i(&mut answer, 0, 0.0, *re, *im, cells.as_mut_ptr(), 2 * n) };
+            unsafe { entry(&mut answer, scaled as u8, q.v, q.re, q.im, cells.as_mut_ptr(), 2 * n) };
             black_box((&cells, &answer));
         }
-        best[0] = best[0].min(begun.elapsed().as_nanos() as f64 / ARGUMENTS as f64);
+        best[0] = best[0].min(begun.elapsed().as_nanos() as f64 / calls as f64);
         let begun = Instant::now();
-        for (re, im) in &points {
-            let count = native::amos::i_power_series(native_complex(*re, *im), 0.0, native::Scaling::Unscaled, &mut entries);
+        for q in &asks {
+            let z = native_complex(q.re, q.im);
+            let count = if is_k {
+                native::amos::k_right_half_plane(z, q.v, scaling, &mut entries).map_or(-1, |n| n as isize)
+            } else {
+                native::amos::i_power_series(z, q.v, scaling, &mut entries)
+            };
             black_box((&entries, count));
         }
-        best[1] = best[1].min(begun.elapsed().as_nanos() as f64 / ARGUMENTS as f64);
+        best[1] = best[1].min(begun.elapsed().as_nanos() as f64 / calls as f64);
     }
     println!("| {letter} | {:.1} | {:.1} | {:.2} |", best[0], best[1], best[0] / best[1]);
 }
@@ -125,8 +161,7 @@ fn latency(xs: &[f64], mask: u64, f: impl Fn(f64) -> f64) -> f64 {
     begun.elapsed().as_nanos() as f64 / ARGUMENTS as f64
 }
 
-fn main() {
-    let rounds = std::env::args().nth(1).and_then(|a| a.parse().ok()).unwrap_or(400);
+fn log_gamma(rounds: usize) {
     let mask = black_box(0u64);
     println!("| log-gamma | throughput ns | text ns | ratio | latency ns | text ns | ratio |\n|---|---|---|---|---|---|---|");
     for (name, low, high, whole) in [("0 to 7", 0.0, 7.0, false), ("7 to 1,000", 7.0, 1000.0, false), ("whole, 1 to 100", 0.0, 100.0, true)] {
@@ -140,7 +175,20 @@ fn main() {
         }
         println!("| {name} | {:.2} | {:.2} | {:.2} | {:.2} | {:.2} | {:.2} |", best[0], best[1], best[0] / best[1], best[2], best[3], best[2] / best[3]);
     }
-    println!("\n| workload | ns a call | text ns | ratio |\n|---|---|---|---|");
-    series('d', 1, rounds);
-    series('D', 10, rounds);
+    println!();
+}
+
+fn main() {
+    let words: Vec<String> = std::env::args().skip(1).collect();
+    let rounds = words.first().and_then(|a| a.parse().ok()).unwrap_or(400);
+    let letters = words.get(1);
+    if letters.is_none() {
+        log_gamma(rounds);
+    }
+    println!("| workload | ns a call | text ns | ratio |\n|---|---|---|---|");
+    for (letter, n) in [('a', 2), ('b', 10), ('B', 10), ('c', 512), ('d', 1), ('D', 10)] {
+        if letters.map_or(true, |l| l.contains(letter)) {
+            workload(letter, n, rounds);
+        }
+    }
 }

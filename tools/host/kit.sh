@@ -10,9 +10,10 @@ kit_cc() {
         "$kit_link" --target x86_64-unknown-linux-gnu --toolchain "$kit_tools" -o "$1" "$1.o" target/staticlib/libcapi.a 2> "$1.link" || { cat "$1.link"; return 1; }
 }
 
+# kit_command: the words before a program of the kit, as `python3 tools/frames/malformed.py "${kit_command[@]}" target/bin/lichenoar` hands them on
+kit_emulator=$kit_tools/bin/qemu-x86_64
+[ -x "$kit_emulator" ] || kit_emulator=
+kit_command=(${kit_emulator:+"$kit_emulator"} "$kit_tools/lib/ld-linux-x86-64.so.2" --library-path "$kit_tools/lib")
+
 # kit_run PROGRAM WORDS..
-kit_run() {
-    local emulator=$kit_tools/bin/qemu-x86_64
-    [ -x "$emulator" ] || emulator=
-    ${emulator:+"$emulator"} "$kit_tools/lib/ld-linux-x86-64.so.2" --library-path "$kit_tools/lib" "$@"
-}
+kit_run() { "${kit_command[@]}" "$@"; }

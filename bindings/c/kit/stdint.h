@@ -1,0 +1,2 @@
+#include "libc.h"
+typedef int int32_t;

@@ -1,0 +1,139 @@
+//! The functions of libcapi.a. A record of 20 bytes comes back through a pointer passed first, and a slice passes as its first cell and its length:
+//! this is x86-64's calling convention, and the archives for other processors follow it.
+
+#[repr(C)]
+#[derive(Default)]
+pub(crate) struct Answer {
+    pub number: u32,
+    pub zeros: i32,
+    pub longest_sum: u32,
+    pub rungs: u32,
+    pub backward: u32,
+}
+
+#[repr(C)]
+pub(crate) struct LogGamma {
+    pub value: f64,
+    pub number: u32,
+}
+
+pub(crate) type Bessel = unsafe extern "C" fn(*mut Answer, u8, f64, f64, f64, *mut f64, usize) -> *mut Answer;
+
+extern "C" {
+    pub(crate) fn lichenoar_k(answer: *mut Answer, scaled: u8, v: f64, re: f64, im: f64, out: *mut f64, length: usize) -> *mut Answer;
+    pub(crate) fn lichenoar_i(answer: *mut Answer, scaled: u8, v: f64, re: f64, im: f64, out: *mut f64, length: usize) -> *mut Answer;
+    pub(crate) fn lichenoar_log_gamma(x: f64) -> LogGamma;
+    pub(crate) fn lichenoar_sqrt(x: f64) -> f64;
+    pub(crate) fn lichenoar_hypot(x: f64, y: f64) -> f64;
+    pub(crate) fn lichenoar_exp(x: f64) -> f64;
+    pub(crate) fn lichenoar_ln(x: f64) -> f64;
+    pub(crate) fn lichenoar_sin(x: f64) -> f64;
+    pub(crate) fn lichenoar_cos(x: f64) -> f64;
+    pub(crate) fn lichenoar_angle(y: f64, x: f64) -> f64;
+    pub(crate) fn lichenoar_sinh(x: f64) -> f64;
+    pub(crate) fn lichenoar_cosh(x: f64) -> f64;
+    pub(crate) fn lichenoar_sin_pi(x: f64) -> f64;
+    pub(crate) fn lichenoar_cos_pi(x: f64) -> f64;
+    pub(crate) fn lichenoar_round(x: f64) -> f64;
+}
+
+// The sizes and the places of the fields, as the archive has them.
+const _: () = {
+    use core::mem::{align_of, offset_of, size_of};
+    assert!(size_of::<Answer>() == 20 && align_of::<Answer>() == 4);
+    assert!(offset_of!(Answer, number) == 0 && offset_of!(Answer, zeros) == 4 && offset_of!(Answer, longest_sum) == 8);
+    assert!(offset_of!(Answer, rungs) == 12 && offset_of!(Answer, backward) == 16);
+    assert!(size_of::<LogGamma>() == 16 && align_of::<LogGamma>() == 8);
+    assert!(offset_of!(LogGamma, value) == 0 && offset_of!(LogGamma, number) == 8);
+    assert!(size_of::<crate::Complex>() == 16 && align_of::<crate::Complex>() == align_of::<f64>());
+    assert!(offset_of!(crate::Complex, re) == 0 && offset_of!(crate::Complex, im) == 8);
+};
+
+#[cfg(test)]
+mod tests {
+    use super::*;
+
+    const GUARD: u64 = 0x0123_4567_89AB_CDEF;
+    const FIXED: u64 = 0x7FF8_0000_0000_0000;
+    const FUNCTIONS: [Bessel; 2] = [lichenoar_k, lichenoar_i];
+
+    /// A call on cells full of rubbish with a guard on each side; the record and the lent cells.
+    fn guarded(function: Bessel, scaled: u8, v: f64, re: f64, im: f64, cells: &mut [f64]) -> Answer {
+        let last = cells.len() - 1;
+        cells.fill(f64::from_bits(0x7FF0_0000_0000_0001));
+        cells[0] = f64::from_bits(GUARD);
+        cells[last] = f64::from_bits(GUARD);
+        // every field holds another value before the call
+        let mut answer = Answer { number: 77, zeros: 77, longest_sum: 77, rungs: 77, backward: 77 };
+        let place: *mut Answer = &mut answer;
+        let returned = unsafe { function(place, scaled, v, re, im, cells.as_mut_ptr().add(1), last - 1) };
+        assert_eq!(returned, place);
+        assert_eq!(cells[0].to_bits(), GUARD);
+        assert_eq!(cells[last].to_bits(), GUARD);
+        answer
+    }
+
+    fn fields(a: &Answer) -> (u32, i32, u32, u32, u32) {
+        (a.number, a.zeros, a.longest_sum, a.rungs, a.backward)
+    }
+
+    #[test]
+    fn lengths_that_are_refused_fill_every_cell_and_no_other() {
+        let mut room = [0.0; 2051];
+        for function in FUNCTIONS {
+            for length in [0, 1, 3, 5, 7, 511, 1023, 1025, 1026, 1027, 1028, 2048, 2049] {
+                let cells = &mut room[..length + 2];
+                assert_eq!(fields(&guarded(function, 0, 0.0, 1.0, 0.0, cells)), (1, 0, 0, 0, 0));
+                assert!(cells[1..=length].iter().all(|x| x.to_bits() == FIXED), "length {length}");
+            }
+        }
+    }
+
+    #[test]
+    fn every_length_that_is_taken_is_written_to_its_end() {
+        let mut room = [0.0; 1026];
+        for (function, re) in FUNCTIONS.into_iter().zip([300.0, 1.0]) {
+            for n in 1..=512 {
+                let cells = &mut room[..2 * n + 2];
+                assert_eq!(guarded(function, 1, 0.0, re, 0.5, cells).number, 0);
+                assert!(cells[1..=2 * n].iter().all(|x| x.is_finite()), "n {n}");
+            }
+        }
+    }
+
+    #[test]
+    fn each_field_of_the_record_is_where_it_is_declared() {
+        let value = f64::from_bits;
+        let mut room = [0.0; 102];
+        // a negative count
+        let a = guarded(lichenoar_i, 1, value(0x4072_9C5E_15A0_1B31), value(0x403E_2A75_B881_2B83), value(0xC035_EF2D_038D_1EF8), &mut room);
+        assert_eq!(fields(&a), (0, -1, 18, 0, 0));
+        // rungs and a sum
+        assert_eq!(fields(&guarded(lichenoar_i, 1, 0.75, 3.0, -4.0, &mut room[..22])), (0, 0, 14, 8, 0));
+        // zeros, rungs and backward steps
+        assert_eq!(fields(&guarded(lichenoar_k, 0, 0.0, 700.0, 3.0, &mut room[..42])), (0, 20, 0, 18, 6));
+        // a refusal
+        assert_eq!(fields(&guarded(lichenoar_k, 0, 1.0, 800.0, 0.0, &mut room[..6])), (7, 0, 0, 0, 0));
+    }
+
+    #[test]
+    fn any_scaling_but_0_is_scaled() {
+        let mut room = [0.0; 4];
+        guarded(lichenoar_k, 1, 0.0, 3.0, 0.0, &mut room);
+        let scaled = room[1].to_bits();
+        for byte in 2..=255 {
+            guarded(lichenoar_k, byte, 0.0, 3.0, 0.0, &mut room);
+            assert_eq!(room[1].to_bits(), scaled);
+        }
+        guarded(lichenoar_k, 0, 0.0, 3.0, 0.0, &mut room);
+        assert_ne!(room[1].to_bits(), scaled);
+    }
+
+    #[test]
+    fn log_gamma_returns_value_and_number() {
+        let answered = unsafe { lichenoar_log_gamma(0.5) };
+        assert_eq!((answered.value.to_bits(), answered.number), (0x3FE2_50D0_48E7_A1B8, 0));
+        let refused = unsafe { lichenoar_log_gamma(0.0) };
+        assert_eq!((refused.value.to_bits(), refused.number), (FIXED, 10));
+    }
+}

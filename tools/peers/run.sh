@@ -22,10 +22,5 @@ if gcc -O2 -Wall -Wextra tools/peers/arb.c -o "$work/arb" -lflint-arb -lflint -l
 else
     echo "peers: no Arb"
 fi
-for python in python3 /usr/bin/python3; do
-    if "$python" -c 'import scipy' 2> "$work/log"; then
-        "$python" tools/peers/times.py "$work/peers"
-        exit 0
-    fi
-done
-echo "peers: no python3 with SciPy"
+python=${PYTHON:-python3}
+if "$python" -c 'import scipy' 2> "$work/log"; then "$python" tools/peers/times.py "$work/peers"; else echo "peers: no SciPy for $python (PYTHON names another)"; fi

@@ -6,15 +6,14 @@ ghost use Prim.Native.Nat.{_+_, _-_, _≤_, _<_};
 ghost use lib.ListN.{length, take, drop};
 ghost use Rattle.lichenoar.specs.Feed.{mostHeld, mostRoom, closedOf, stepOf, fedOf, feedOf, Within, frameAhead};
 use frames::digits::are_digits;
+use frames::layout::ASKING_LENGTH;
 use frames::line::answer_line;
 
 const NEWLINE: u8 = 10;
 
 const MOST_HELD: usize = 57;
 
-// a frame's digits, and with its newline
-const FRAME_LENGTH: usize = 56;
-
+// a frame's digits and its newline
 const LINE_LENGTH: usize = 57;
 
 const MOST_ROOM: usize = 16403;
@@ -77,10 +76,10 @@ fn frame_ahead(chunk: &[u8], at: usize) -> bool
     if chunk.len() - at < LINE_LENGTH {
         return false;
     }
-    if chunk[at + FRAME_LENGTH] != NEWLINE {
+    if chunk[at + ASKING_LENGTH] != NEWLINE {
         return false;
     }
-    are_digits(&chunk[at..at + FRAME_LENGTH])
+    are_digits(&chunk[at..at + ASKING_LENGTH])
 }
 
 // A whole frame with its newline where nothing is held, and else one byte.
@@ -97,7 +96,7 @@ fn take_some(
 {
     if held == 0 {
         if frame_ahead(chunk, at) {
-            let end = close_line(&chunk[at..at + FRAME_LENGTH], FRAME_LENGTH, out, filled);
+            let end = close_line(&chunk[at..at + ASKING_LENGTH], ASKING_LENGTH, out, filled);
             return Progress {
                 at: at + LINE_LENGTH,
                 held,

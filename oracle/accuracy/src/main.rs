@@ -5,25 +5,18 @@
 #[path = "../../driver/src/draw.rs"]
 #[allow(dead_code)]
 mod draw;
+#[path = "../../record.rs"]
+#[allow(dead_code)]
+mod record;
 mod regions;
 
 use draw::Draw;
 use num_std::Complex;
+use record::Answer;
 use regions::{Ask, Region};
 use std::io::Write;
 
-#[repr(C)]
-#[derive(Default)]
-struct Answer {
-    number: u32,
-    zeros: i32,
-    longest_sum: u32,
-    rungs: u32,
-    backward: u32,
-}
-
 extern "C" {
-    // its record comes back through the first pointer, as in the oracle's port.rs
     fn lichenoar_i(answer: *mut Answer, scaled: u8, v: f64, re: f64, im: f64, out: *mut f64, length: usize) -> *mut Answer;
     fn lichenoar_k(answer: *mut Answer, scaled: u8, v: f64, re: f64, im: f64, out: *mut f64, length: usize) -> *mut Answer;
 }

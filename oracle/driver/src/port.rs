@@ -1,8 +1,12 @@
 //! The entry points of libcapi.a; `None` for one that the build left out, which fails the run.
 #![allow(unused_variables, dead_code)]
 
+#[path = "../../record.rs"]
+mod record;
+
 use crate::draw::Call;
 use crate::reference::{Kind, Outcome};
+use record::{Answer, Entry};
 
 #[repr(C)]
 struct LogGamma {
@@ -10,21 +14,9 @@ struct LogGamma {
     number: u32,
 }
 
-#[repr(C)]
-#[derive(Default)]
-struct Answer {
-    number: u32,
-    zeros: i32,
-    longest_sum: u32,
-    rungs: u32,
-    backward: u32,
-}
-
 extern "C" {
     #[cfg(feature = "log_gamma")]
     fn lichenoar_log_gamma(x: f64) -> LogGamma;
-    // A record of more than 16 bytes comes back through a pointer that the caller passes first: so x86-64's calling convention has it, and so the archive
-    // for another processor has it too, since it is made of the same module.
     #[cfg(feature = "i")]
     fn lichenoar_i(answer: *mut Answer, scaled: u8, v: f64, re: f64, im: f64, out: *mut f64, length: usize) -> *mut Answer;
     #[cfg(feature = "k")]
@@ -43,7 +35,7 @@ pub fn log_gamma(x: f64) -> Option<(u32, u64)> {
 
 /// The call, on a buffer filled with the given rubbish and guarded by a cell on each side.
 pub fn outcome(kind: Kind, c: &Call, rubbish: u64) -> Option<Result<Outcome, String>> {
-    let function: Option<unsafe extern "C" fn(*mut Answer, u8, f64, f64, f64, *mut f64, usize) -> *mut Answer> = match kind {
+    let function: Option<Entry> = match kind {
         #[cfg(feature = "k")]
         Kind::K => Some(lichenoar_k),
         #[cfg(feature = "i")]

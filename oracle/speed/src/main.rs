@@ -3,6 +3,11 @@
 //! against the text's kernel alone. The workloads: K scaled, a: v=0, n=2, re=im from 2^-7 to 2^6; b: v<50, n=10, |z| from 0.1 to 50; B: as b, unscaled; c: v=1000, n=512,
 //! |z| from 1,700 to 3,000. I unscaled, v=0, |z| ≤ 2, d: n=1; D: n=10. `speed ROUNDS LETTERS` times those workloads alone.
 
+#[path = "../../record.rs"]
+#[allow(dead_code)]
+mod record;
+
+use record::{Answer, Entry};
 use std::hint::black_box;
 use std::time::Instant;
 
@@ -12,24 +17,11 @@ struct LogGamma {
     number: u32,
 }
 
-#[repr(C)]
-#[derive(Default)]
-struct Answer {
-    number: u32,
-    zeros: i32,
-    longest_sum: u32,
-    rungs: u32,
-    backward: u32,
-}
-
 extern "C" {
     fn lichenoar_log_gamma(x: f64) -> LogGamma;
-    // its record comes back through the first pointer, as in the oracle's port.rs
     fn lichenoar_i(answer: *mut Answer, scaled: u8, v: f64, re: f64, im: f64, out: *mut f64, length: usize) -> *mut Answer;
     fn lichenoar_k(answer: *mut Answer, scaled: u8, v: f64, re: f64, im: f64, out: *mut f64, length: usize) -> *mut Answer;
 }
-
-type Entry = unsafe extern "C" fn(*mut Answer, u8, f64, f64, f64, *mut f64, usize) -> *mut Answer;
 
 struct Ask {
     v: f64,

@@ -7,17 +7,12 @@ use std::io::BufRead;
 use std::panic::{catch_unwind, AssertUnwindSafe};
 
 mod algorithm_644;
+#[path = "../../../oracle/record.rs"]
+#[allow(dead_code)]
+mod record;
 
-#[repr(C)]
-#[derive(Default)]
-struct Answer {
-    number: u32,
-    zeros: i32,
-    longest_sum: u32,
-    rungs: u32,
-    backward: u32,
-}
-type Entry = unsafe extern "C" fn(*mut Answer, u8, f64, f64, f64, *mut f64, usize) -> *mut Answer;
+use record::{Answer, Entry};
+
 extern "C" {
     fn lichenoar_i(answer: *mut Answer, scaled: u8, v: f64, re: f64, im: f64, out: *mut f64, length: usize) -> *mut Answer;
     fn lichenoar_k(answer: *mut Answer, scaled: u8, v: f64, re: f64, im: f64, out: *mut f64, length: usize) -> *mut Answer;

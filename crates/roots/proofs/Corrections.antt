@@ -1,10 +1,11 @@
--- What the f64 steps leave to correct: the 53 digits that they give are within 3 of the nearest whole root (`sqrt-corrections`). Assumes nothing.
-use mathlib.Core.Path.{_≡_, sym, ap, _∙_}
+-- What the f64 steps leave to correct: the 53 digits that they give are within 2 of the nearest whole root (`sqrt-corrections`). Assumes nothing.
+use mathlib.Core.Path.{_≡_, sym, ap, _∙_, subst}
 use mathlib.Core.Logic.{inl, inr}
 use mathlib.Core.Bool.{false}
 use Prim.Native.Nat.{ℕ, _+_, _-_, _*_, _^_, _≤_, _<_}
 use native.Mathlib.Nat.{le-trans, le-of-eq, le-of-lt, lt-of-lt-of-le, lt-of-le-of-lt, mul-assoc, mul-comm, add-mul, mul-add, mul-pos, mul-le-mul, mul-le-mul-left, mul-le-mul-right, le-of-mul-le-mul-right, mul-mul-mul-comm}
 use native.Mathlib.Omega.{arith}
+use lib.Dec.{lit<}
 use lib.Pow.{pow-pos}
 use lib.Ieee.{Float, binary64, toBits}
 use lib.Ieee.Exact.{HasValue}
@@ -21,56 +22,59 @@ use Rattle.roots.proofs.Significand.{scaled-range}
 use Rattle.roots.proofs.Heron.{twice-close}
 
 -- ---- numbers: B * B is X * g * g to one part in 2 ^ 50, and R is nearest to the root of X
--- each is refuted by 608 * R below 7 * 2 ^ 60, and the like
-too-large : (Q R : ℕ) → 608 * Q ≤ 608 * (2 ^ 53 * R) → 2 ^ 60 * (Q + 8 * R + 16) ≤ (2 ^ 60 + 608) * (Q + R) → ⊥
+-- each is refuted by 608 * 2 ^ 53 below 5 * 2 ^ 60, and the like
+too-large : (Q R : ℕ) → 608 * Q ≤ 608 * (2 ^ 53 * R) → 2 ^ 60 * (Q + 6 * R + 9) ≤ (2 ^ 60 + 608) * (Q + R) → ⊥
 too-large Q R r h = omega arith
 
-too-small : (Q M : ℕ) → 513 * Q ≤ 513 * (2 ^ 53 * M) → (2 ^ 60 - 513) * (Q + 7 * M + 12) ≤ 2 ^ 60 * Q → ⊥
+too-small : (Q M : ℕ) → 513 * Q ≤ 513 * (2 ^ 53 * M) → (2 ^ 60 - 513) * (Q + 5 * M + 7) ≤ 2 ^ 60 * Q → ⊥
 too-small Q M r h = omega arith
 
 too-small-edge : (Q M : ℕ) → 513 * Q ≤ 513 * ((2 ^ 52 + 2) * M) → (2 ^ 60 - 513) * (Q + 3 * M + 3) ≤ 2 ^ 60 * Q → ⊥
 too-small-edge Q M r h = omega arith
 
+too-small-least : (Q R S : ℕ) → 2052 * Q ≤ 2052 * (2 ^ 52 * R) → S + 12 * R ≡ 4 * Q + 9 → (2 ^ 60 - 513) * Q * 4 ≤ 2 ^ 60 * S → 3 ≤ R → ⊥
+too-small-least Q R S r e h p = omega arith
+
 module _ (X R B g : ℕ) (N : Nearest X R) (l : 2 ^ 52 ≤ R) (u : R < 2 ^ 53) (G : 0 < g) (lo : (2 ^ 60 - 513) * (X * (g * g)) ≤ 2 ^ 60 * (B * B)) (hi : 2 ^ 60 * (B * B) ≤ (2 ^ 60 + 608) * (X * (g * g))) where
   rough : R * R ≤ 2 ^ 53 * R
   rough = mul-le-mul-right R (le-of-lt u)
 
-  not-over : B < (R + 4) * g
+  not-over : B < (R + 3) * g
   not-over =
-      elim (which B ((R + 4) * g)) [
+      elim (which B ((R + 3) * g)) [
         | inl h ↦ h
         | inr h ↦
-            let b : (R + 4) * g * ((R + 4) * g) ≤ B * B = mul-le-mul h h in
-            let e : (R + 4) * g * ((R + 4) * g) ≡ (R + 4) * (R + 4) * (g * g) = mul-mul-mul-comm (R + 4) g (R + 4) g in
-            let x : 2 ^ 60 * ((R + 4) * (R + 4)) * (g * g) ≤ (2 ^ 60 + 608) * X * (g * g) = omega arith in
-            let y : 2 ^ 60 * ((R + 4) * (R + 4)) ≤ (2 ^ 60 + 608) * X = le-of-mul-le-mul-right x (mul-pos G G) in
-            let z : (R + 4) * (R + 4) ≡ R * R + 8 * R + 16 = simp (add-mul, mul-add) (omega arith) in
+            let b : (R + 3) * g * ((R + 3) * g) ≤ B * B = mul-le-mul h h in
+            let e : (R + 3) * g * ((R + 3) * g) ≡ (R + 3) * (R + 3) * (g * g) = mul-mul-mul-comm (R + 3) g (R + 3) g in
+            let x : 2 ^ 60 * ((R + 3) * (R + 3)) * (g * g) ≤ (2 ^ 60 + 608) * X * (g * g) = omega arith in
+            let y : 2 ^ 60 * ((R + 3) * (R + 3)) ≤ (2 ^ 60 + 608) * X = le-of-mul-le-mul-right x (mul-pos G G) in
+            let z : (R + 3) * (R + 3) ≡ R * R + 6 * R + 9 = simp (add-mul, mul-add) (omega arith) in
             absurd (clash y z)
       ]
     where
-      clash : 2 ^ 60 * ((R + 4) * (R + 4)) ≤ (2 ^ 60 + 608) * X → (R + 4) * (R + 4) ≡ R * R + 8 * R + 16 → ⊥
+      clash : 2 ^ 60 * ((R + 3) * (R + 3)) ≤ (2 ^ 60 + 608) * X → (R + 3) * (R + 3) ≡ R * R + 6 * R + 9 → ⊥
       clash y z = too-large (R * R) R (mul-le-mul-left 608 rough) (le-trans (le-of-eq (ap (λ (t : ℕ). 2 ^ 60 * t) (sym z))) (le-trans y (mul-le-mul-left (2 ^ 60 + 608) (N .0))))
 
-  not-under : 2 ^ 52 + 4 ≤ R → (R - 4) * g < B
+  not-under : 2 ^ 52 + 3 ≤ R → (R - 3) * g < B
   not-under m =
-      elim (which ((R - 4) * g) B) [
+      elim (which ((R - 3) * g) B) [
         | inl h ↦ h
         | inr h ↦ absurd (clash h)
       ]
     where
-      clash : B ≤ (R - 4) * g → ⊥
+      clash : B ≤ (R - 3) * g → ⊥
       clash h =
-          let M = R - 4 in
-          let s : R ≡ M + 4 = omega arith in
+          let M = R - 3 in
+          let s : R ≡ M + 3 = omega arith in
           let b : B * B ≤ M * g * (M * g) = mul-le-mul h h in
           let e : M * g * (M * g) ≡ M * M * (g * g) = mul-mul-mul-comm M g M g in
           let x : (2 ^ 60 - 513) * X * (g * g) ≤ 2 ^ 60 * (M * M) * (g * g) = omega arith in
           let y : (2 ^ 60 - 513) * X ≤ 2 ^ 60 * (M * M) = le-of-mul-le-mul-right x (mul-pos G G) in
-          let z : R * R ≡ M * M + 8 * M + 16 = ap (λ (t : ℕ). t * t) s ∙ simp (add-mul, mul-add) (omega arith) in
-          let k : M * M + 7 * M + 12 ≤ X = omega (arith, z, N .1) in
+          let z : R * R ≡ M * M + 6 * M + 9 = ap (λ (t : ℕ). t * t) s ∙ simp (add-mul, mul-add) (omega arith) in
+          let k : M * M + 5 * M + 7 ≤ X = omega (arith, z, N .1) in
           too-small (M * M) M (mul-le-mul-left 513 (mul-le-mul-right M (omega arith))) (le-trans (mul-le-mul-left (2 ^ 60 - 513) k) y)
 
-  not-under-edge : R < 2 ^ 52 + 4 → (R - 2) * g < B
+  not-under-edge : R < 2 ^ 52 + 3 → (R - 2) * g < B
   not-under-edge m =
       elim (which ((R - 2) * g) B) [
         | inl h ↦ h
@@ -89,6 +93,28 @@ module _ (X R B g : ℕ) (N : Nearest X R) (l : 2 ^ 52 ≤ R) (u : R < 2 ^ 53) (
           let k : M * M + 3 * M + 3 ≤ X = omega (arith, z, N .1) in
           too-small-edge (M * M) M (mul-le-mul-left 513 (mul-le-mul-right M (omega arith))) (le-trans (mul-le-mul-left (2 ^ 60 - 513) k) y)
 
+  -- at the least root the patterns below are half as far apart
+  not-under-least : R ≡ 2 ^ 52 → R * R ≤ X → (2 * R - 3) * g < 2 * B
+  not-under-least m x0 =
+      elim (which ((2 * R - 3) * g) (2 * B)) [
+        | inl h ↦ h
+        | inr h ↦ absurd (clash h)
+      ]
+    where
+      clash : 2 * B ≤ (2 * R - 3) * g → ⊥
+      clash h =
+          let M = 2 * R - 3 in
+          let s : 2 * R ≡ M + 3 = omega arith in
+          let b : 2 * B * (2 * B) ≤ M * g * (M * g) = mul-le-mul h h in
+          let d : 2 * B * (2 * B) ≡ 2 * 2 * (B * B) = mul-mul-mul-comm 2 B 2 B in
+          let e : M * g * (M * g) ≡ M * M * (g * g) = mul-mul-mul-comm M g M g in
+          let x : (2 ^ 60 - 513) * X * 4 * (g * g) ≤ 2 ^ 60 * (M * M) * (g * g) = omega arith in
+          let y : (2 ^ 60 - 513) * X * 4 ≤ 2 ^ 60 * (M * M) = le-of-mul-le-mul-right x (mul-pos G G) in
+          let w : (2 ^ 60 - 513) * (R * R) ≤ (2 ^ 60 - 513) * X = mul-le-mul-left (2 ^ 60 - 513) x0 in
+          let q : 2 * R * (2 * R) ≡ 2 * 2 * (R * R) = mul-mul-mul-comm 2 R 2 R in
+          let z : 2 * R * (2 * R) ≡ M * M + 6 * M + 9 = ap (λ (t : ℕ). t * t) s ∙ simp (add-mul, mul-add) (omega arith) in
+          too-small-least (R * R) R (M * M) (mul-le-mul-left 2052 (mul-le-mul-right R (le-of-eq m))) (omega arith) (omega arith) (omega arith)
+
 -- ---- patterns near that of twice the root
 at-least : (S : ℕ) → 2 ^ 52 ≤ S → S < 2 ^ 53 + 2 ^ 52 → S * 2 ^ 1023 ≤ unitsOf (S + 1023 * 2 ^ 52)
 at-least S l u =
@@ -105,6 +131,19 @@ at-most-edge : (S : ℕ) → S < 2 ^ 52 → unitsOf (S + 1023 * 2 ^ 52) ≡ (2 ^
 at-most-edge S u =
     let e : S + 1023 * 2 ^ 52 ≡ 1023 * 2 ^ 52 + S = omega arith in
     ap unitsOf e ∙ units-at 1023 S u
+
+halved : (t B : ℕ) → (2 * 2 ^ 52 - 3) * (2 * t) < 2 * B → (2 ^ 52 + (2 ^ 52 - 3)) * t < B
+halved t B h = omega arith
+
+under-least : (R B : ℕ) → R ≡ 2 ^ 52 → (2 * R - 3) * 2 ^ 1023 < 2 * B → unitsOf (R - 3 + 1023 * 2 ^ 52) < B
+under-least R B m h =
+    subst (λ (r : ℕ). unitsOf (r - 3 + 1023 * 2 ^ 52) < B) (sym m)
+    (lt-of-le-of-lt (le-of-eq (at-most-edge (2 ^ 52 - 3) (lit< tt))) (halved (2 ^ 1022) B (subst (λ (r : ℕ). (2 * r - 3) * 2 ^ 1023 < 2 * B) m h)))
+
+under-edge : (R B : ℕ) → 2 ^ 52 + 1 ≤ R → R < 2 ^ 52 + 3 → (R - 2) * 2 ^ 1023 < B → unitsOf (R - 3 + 1023 * 2 ^ 52) < B
+under-edge R B j k h =
+    let c : 2 ^ 52 + (R - 3) ≤ (R - 2) * 2 = omega arith in
+    lt-of-le-of-lt (le-of-eq (at-most-edge (R - 3) (omega arith))) (lt-of-le-of-lt (le-trans (mul-le-mul-right (2 ^ 1022) c) (le-of-eq (mul-assoc (R - 2) 2 (2 ^ 1022)))) h)
 
 -- ---- twice the root, in units of the smallest value
 doubled-units : (u : ℕ) → HasValue (twiceRoot u) false (unitsOf (toBits binary64 (twiceRoot u))) (2 ^ 1074)
@@ -130,7 +169,7 @@ squares n B d v c =
       le-of-mul-le-mul-right (le-trans (le-of-eq (sym g)) (le-trans (r .upper) (le-of-eq (shifted n (2 ^ 60 + 608))))) (pow-pos 52),
     )
 
-over-one : (b R : ℕ) → R - 4 + 1023 * 2 ^ 52 < b → b < R + 4 + 1023 * 2 ^ 52 → 2 ^ 52 ≤ R → (1023 * 2 ^ 52 ≤ b) × (R ≤ b - 1023 * 2 ^ 52 + 3) × (b - 1023 * 2 ^ 52 ≤ R + 3)
+over-one : (b R : ℕ) → R - 3 + 1023 * 2 ^ 52 < b → b < R + 3 + 1023 * 2 ^ 52 → 2 ^ 52 ≤ R → (1023 * 2 ^ 52 ≤ b) × (R ≤ b - 1023 * 2 ^ 52 + 2) × (b - 1023 * 2 ^ 52 ≤ R + 2)
 over-one b R l u h = (omega arith, omega arith, omega arith)
 
 -- the digits that the pattern of twice the root gives
@@ -140,7 +179,7 @@ estimateOf u = toBits binary64 (twiceRoot u) - 1023 * 2 ^ 52
 abbrev pub rootOf : ℕ → ℕ
 rootOf u = nearestRoot 53 (scaled (folded u) * 2 ^ 52)
 
-pub sqrt-corrections : (u : ℕ) → (1023 * 2 ^ 52 ≤ toBits binary64 (twiceRoot u)) × (rootOf u ≤ estimateOf u + 3) × (estimateOf u ≤ rootOf u + 3)
+pub sqrt-corrections : (u : ℕ) → (1023 * 2 ^ 52 ≤ toBits binary64 (twiceRoot u)) × (rootOf u ≤ estimateOf u + 2) × (estimateOf u ≤ rootOf u + 2)
 sqrt-corrections u =
     let n = scaled (folded u) in
     let X = n * 2 ^ 52 in
@@ -154,15 +193,19 @@ sqrt-corrections u =
     let l = root-least X xl xu in
     let h = root-most X xl xu in
     let q = squares n (unitsOf b) (twiceRoot u) (doubled-units u) (twice-close u .close) in
-    let over : b < R + 4 + 1023 * 2 ^ 52 =
-    units-lt-back b (R + 4 + 1023 * 2 ^ 52) (lt-of-lt-of-le (not-over X R (unitsOf b) g N l h (pow-pos 1023) (q .0) (q .1)) (at-least (R + 4) (omega arith) (omega arith))) in
-    let under : R - 4 + 1023 * 2 ^ 52 < b =
-    units-lt-back (R - 4 + 1023 * 2 ^ 52) b
-    (elim (which R (2 ^ 52 + 4)) [
+    let over : b < R + 3 + 1023 * 2 ^ 52 =
+    units-lt-back b (R + 3 + 1023 * 2 ^ 52) (lt-of-lt-of-le (not-over X R (unitsOf b) g N l h (pow-pos 1023) (q .0) (q .1)) (at-least (R + 3) (omega arith) (omega arith))) in
+    let under : R - 3 + 1023 * 2 ^ 52 < b =
+    units-lt-back (R - 3 + 1023 * 2 ^ 52) b
+    (elim (which R (2 ^ 52 + 1)) [
       | inl k ↦
-          let c : 2 ^ 52 + (R - 4) ≤ (R - 2) * 2 = omega arith in
-          lt-of-le-of-lt (le-of-eq (at-most-edge (R - 4) (omega arith)))
-          (lt-of-le-of-lt (le-trans (mul-le-mul-right (2 ^ 1022) c) (le-of-eq (mul-assoc (R - 2) 2 (2 ^ 1022)))) (not-under-edge X R (unitsOf b) g N l h (pow-pos 1023) (q .0) (q .1) k))
-      | inr k ↦ lt-of-le-of-lt (le-of-eq (units-digits (R - 4) 1023 (omega arith) (omega arith))) (not-under X R (unitsOf b) g N l h (pow-pos 1023) (q .0) (q .1) k)
+          let m : R ≡ 2 ^ 52 = omega arith in
+          let x : R * R ≤ X = le-trans (le-of-eq (ap (λ (t : ℕ). t * t) m)) xl in
+          under-least R (unitsOf b) m (not-under-least X R (unitsOf b) g N l h (pow-pos 1023) (q .0) (q .1) m x)
+      | inr j ↦
+          elim (which R (2 ^ 52 + 3)) [
+            | inl k ↦ under-edge R (unitsOf b) j k (not-under-edge X R (unitsOf b) g N l h (pow-pos 1023) (q .0) (q .1) k)
+            | inr k ↦ lt-of-le-of-lt (le-of-eq (units-digits (R - 3) 1023 (omega arith) (omega arith))) (not-under X R (unitsOf b) g N l h (pow-pos 1023) (q .0) (q .1) k)
+          ]
     ]) in
     over-one b R under over l

@@ -1,8 +1,8 @@
--- The whole number nearest to a root: what says that r is it, that there is one only, that `nearestRoot` is it, and the comparison of squares by halves. Assumes nothing.
-use mathlib.Core.Path.{_≡_, sym, ap, _∙_, subst}
+-- The whole number nearest to a root: what says that r is it, that there is one only, that `nearestRoot` is it, and how four comparisons of squares find it. Assumes nothing.
+use mathlib.Core.Path.{_≡_, refl, sym, ap, _∙_, subst}
 use mathlib.Core.Logic.{_⊎_, inl, inr}
 use mathlib.Core.Bool.{Bool, true, false, not, cond}
-use Prim.Native.Nat.{ℕ, zero, suc, _+_, _*_, _/_, _%_, _^_, _≤_, _<_}
+use Prim.Native.Nat.{ℕ, zero, suc, _+_, _-_, _*_, _/_, _%_, _^_, _≤_, _<_}
 use native.Mathlib.Nat.{le-antisymm, mul-le-mul, mul-comm, mul-assoc, mul-left-comm, add-mul, mul-add, mul-one, one-mul, pow-suc, pow-zero, lt-of-le-of-lt}
 use native.Mathlib.Omega.{arith}
 use lib.Dec.{T, lit<, leb, ltb, leb→le, nleb→lt, ltb→lt, nltb→le}
@@ -116,27 +116,108 @@ scaled-lt n h = omega arith
 pub scaled-nearest : (n : ℕ) → 0 < n → n < 2 ^ 54 → Nearest (n * 2 ^ 52) (nearestRoot 53 (n * 2 ^ 52))
 scaled-nearest n p h = nearest-root 53 (n * 2 ^ 52) (omega arith) (scaled-lt n h)
 
--- ---- the comparison by halves: s = h * 2 ^ 26 + l
-abbrev pub Halves : ℕ → ℕ
-Halves s = s / 2 ^ 26 * (s / 2 ^ 26) + (s / 2 ^ 26 * (s % 2 ^ 26) + (s % 2 ^ 26 * (s % 2 ^ 26) + s) / 2 ^ 27) / 2 ^ 25
+-- ---- the square of e = h * 2 ^ 26 + l: whole multiples of 2 ^ 52, and a rest below two of them
+abbrev pub multiples : ℕ → ℕ
+multiples e = e / 2 ^ 26 * (e / 2 ^ 26) + e / 2 ^ 26 * (e % 2 ^ 26) / 2 ^ 25
 
-pub halves : (n s : ℕ) → ltb (Halves s) n ≡ ltb (s * s + s) (n * 2 ^ 52)
-halves n s = elim (which (Halves s) n) [ inl k ↦ lt-ltb (Halves s) n k ∙ sym (lt-ltb (s * s + s) (n * 2 ^ 52) (less k)) | inr k ↦ le-ltb (Halves s) n k ∙ sym (le-ltb (s * s + s) (n * 2 ^ 52) (more k)) ]
+abbrev pub restOf : ℕ → ℕ
+restOf e = e / 2 ^ 26 * (e % 2 ^ 26) % 2 ^ 25 * 2 ^ 27 + e % 2 ^ 26 * (e % 2 ^ 26)
+
+square : (a b : ℕ) → (a * 2 ^ 26 + b) * (a * 2 ^ 26 + b) ≡ a * a * 2 ^ 52 + a * b * 2 ^ 27 + b * b
+square a b = simp (add-mul, mul-add, mul-assoc, mul-comm, mul-left-comm) (omega arith)
+
+pub parted : (e : ℕ) → e * e ≡ multiples e * 2 ^ 52 + restOf e
+parted e =
+    let h = e / 2 ^ 26 in
+    let l = e % 2 ^ 26 in
+    let s : e ≡ h * 2 ^ 26 + l = omega arith in
+    let w : e * e ≡ h * h * 2 ^ 52 + h * l * 2 ^ 27 + l * l = ap (λ (x : ℕ). x * x) s ∙ square h l in
+    omega (arith, w)
+
+high-le : (e : ℕ) → e < 2 ^ 54 → e / 2 ^ 26 ≤ 2 ^ 28
+high-le e h = omega arith
+
+low-le : (e : ℕ) → e % 2 ^ 26 ≤ 2 ^ 26
+low-le e = omega arith
+
+pub part-sizes : (e : ℕ) → e < 2 ^ 54 → (e / 2 ^ 26 * (e / 2 ^ 26) ≤ 2 ^ 56) × (e / 2 ^ 26 * (e % 2 ^ 26) ≤ 2 ^ 54) × (e % 2 ^ 26 * (e % 2 ^ 26) ≤ 2 ^ 52)
+part-sizes e h = (mul-le-mul (high-le e h) (high-le e h), mul-le-mul (high-le e h) (low-le e), mul-le-mul (low-le e) (low-le e))
+
+plus-two : (k : ℕ) → (k + 2) * (k + 2) ≡ k * k + 4 * k + 4
+plus-two k = simp (add-mul, mul-add) (omega arith)
+
+-- an e within 2 of the nearest root of n * 2 ^ 52: how far its multiples are from n
+pub near-multiples : (n e r : ℕ) → Nearest (n * 2 ^ 52) r → n < 2 ^ 54 → r ≤ e + 2 → e ≤ r + 2 → (e < 2 ^ 54) × (multiples e ≤ n + 16) × (n ≤ multiples e + 16)
+near-multiples n e r N h l u =
+    let m : r ≤ 2 ^ 53 = not-above (n * 2 ^ 52) r (2 ^ 53) N (omega arith) in
+    let k : e < 2 ^ 54 = omega arith in
+    let up : e * e ≤ (r + 2) * (r + 2) = mul-le-mul u u in
+    let down : r * r ≤ (e + 2) * (e + 2) = mul-le-mul l l in
+    let s = part-sizes e k in
+    (k, omega (arith, parted e, plus-two r, N .1), omega (arith, parted e, plus-two e, N .0))
+
+-- ---- what a comparison adds: 1 for an s below the nearest root
+abbrev pub Told : ℕ → ℕ → ℕ → Type 0
+Told s r v = ((v ≡ 1) × (s < r)) ⊎ ((v ≡ 0) × (r ≤ s))
+
+pub told : (n r s a b : ℕ) → Nearest n r → a + n ≡ b + (s * s + s) → Told s r (cond (ltb a b) 1 0)
+told n r s a b N h =
+    elim (which a b) [
+      | inl k ↦ inl (ap (λ (t : Bool). cond t 1 0) (lt-ltb a b k), above-below n r s N (omega arith))
+      | inr k ↦ inr (ap (λ (t : Bool). cond t 1 0) (le-ltb a b k), not-above n r s N (omega arith))
+    ]
+
+as-told : (s r v w : ℕ) → v ≡ w → Told s r w → Told s r v
+as-told s r v w h t = subst (λ (x : ℕ). Told s r x) (sym h) t
+
+-- a count that climbs one by one as long as it is below the root
+abbrev Climbed : ℕ → ℕ → ℕ → Type 0
+Climbed m r v = ((v ≡ m) × (m ≤ r)) ⊎ ((v ≡ r) × (r ≤ m))
+
+climb-on : (m k r v a : ℕ) → k ≡ m + 1 → Climbed m r v → Told m r a → Climbed k r (v + a)
+climb-on m k r v a e (inl p) (inl q) = let x : v ≡ m = p .0 in let y : a ≡ 1 = q .0 in let z : m < r = q .1 in inl (omega arith, omega arith)
+climb-on m k r v a e (inl p) (inr q) = let x : v ≡ m = p .0 in let h : m ≤ r = p .1 in let y : a ≡ 0 = q .0 in let z : r ≤ m = q .1 in inr (omega arith, omega arith)
+climb-on m k r v a e (inr p) (inl q) = absurd (clash (p .1) (q .1))
   where
-    h : ℕ
-    h = s / 2 ^ 26
+    clash : r ≤ m → m < r → ⊥
+    clash h g = omega arith
+climb-on m k r v a e (inr p) (inr q) = let x : v ≡ r = p .0 in let h : r ≤ m = p .1 in let y : a ≡ 0 = q .0 in inr (omega arith, omega arith)
 
-    l : ℕ
-    l = s % 2 ^ 26
+-- from two below an e that is within 2 of the root up, four comparisons end at the root
+four-told : (e r a b c d : ℕ) → 2 ≤ e → r ≤ e + 2 → e ≤ r + 2 → Told (e - 2) r a → Told (e - 1) r b → Told e r c → Told (e + 1) r d → e - 2 + a + b + c + d ≡ r
+four-told e r a b c d l u w A B C D =
+    last
+    (climb-on (e + 1) (e + 2) r (e - 2 + a + b + c) d (omega arith)
+    (climb-on e (e + 1) r (e - 2 + a + b) c (omega arith) (climb-on (e - 1) e r (e - 2 + a) b (omega arith) (climb-on (e - 2) (e - 1) r (e - 2) a (omega arith) (inl (refl, omega arith)) A) B) C) D)
+  where
+    last : Climbed (e + 2) r (e - 2 + a + b + c + d) → e - 2 + a + b + c + d ≡ r
+    last (inl p) = let x : e - 2 + a + b + c + d ≡ e + 2 = p .0 in let y : e + 2 ≤ r = p .1 in omega arith
+    last (inr p) = p .0
 
-    square : (a b : ℕ) → (a * 2 ^ 26 + b) * (a * 2 ^ 26 + b) ≡ a * a * 2 ^ 52 + a * b * 2 ^ 27 + b * b
-    square a b = simp (add-mul, mul-add, mul-assoc, mul-comm, mul-left-comm) (omega arith)
+-- ---- the four comparisons: both sides are less by the same multiples of 2 ^ 52, and more by 2 ^ 56
+abbrev pub boundOf : ℕ → ℕ → ℕ
+boundOf n e = (n + 16 - multiples e) * 2 ^ 52
 
-    whole : s * s ≡ h * h * 2 ^ 52 + h * l * 2 ^ 27 + l * l
-    whole = let e : s ≡ h * 2 ^ 26 + l = omega arith in ap (λ (x : ℕ). x * x) e ∙ square h l
+abbrev pub raisedRest : ℕ → ℕ
+raisedRest e = restOf e + 2 ^ 56
 
-    less : Halves s < n → s * s + s < n * 2 ^ 52
-    less k = omega (arith, whole)
+less-two : (e : ℕ) → 2 ≤ e → (e - 2) * (e - 2) + 4 * e ≡ e * e + 4
+less-two e h = let k = e - 2 in let s : e ≡ k + 2 = omega arith in let z : e * e ≡ k * k + 4 * k + 4 = ap (λ (t : ℕ). t * t) s ∙ plus-two k in omega (arith, z)
 
-    more : n ≤ Halves s → n * 2 ^ 52 ≤ s * s + s
-    more k = omega (arith, whole)
+less-one : (e : ℕ) → 1 ≤ e → (e - 1) * (e - 1) + 2 * e ≡ e * e + 1
+less-one e h = let k = e - 1 in let s : e ≡ k + 1 = omega arith in let z : e * e ≡ k * k + 2 * k + 1 = ap (λ (t : ℕ). t * t) s ∙ simp (add-mul, mul-add) (omega arith) in omega (arith, z)
+
+more-one : (e : ℕ) → (e + 1) * (e + 1) ≡ e * e + 2 * e + 1
+more-one e = simp (add-mul, mul-add) (omega arith)
+
+pub four-comparisons : (n e r a b c d : ℕ) → Nearest (n * 2 ^ 52) r → n < 2 ^ 54 → 4 ≤ e → r ≤ e + 2 → e ≤ r + 2
+    → a ≡ cond (ltb (raisedRest e + 2 - 3 * e) (boundOf n e)) 1 0 → b ≡ cond (ltb (raisedRest e - e) (boundOf n e)) 1 0 → c ≡ cond (ltb (raisedRest e + e) (boundOf n e)) 1 0 → d ≡ cond (ltb (raisedRest e + 3 * e + 2) (boundOf n e)) 1 0
+    → e - 2 + a + b + c + d ≡ r
+four-comparisons n e r a b c d N h k l u ha hb hc hd =
+    let m = near-multiples n e r N h l u in
+    let X = n * 2 ^ 52 in
+    four-told e r a b c d (omega arith) l u
+    (as-told (e - 2) r a _ ha (told X r (e - 2) (raisedRest e + 2 - 3 * e) (boundOf n e) N (omega (arith, parted e, less-two e (omega arith), m))))
+    (as-told (e - 1) r b _ hb (told X r (e - 1) (raisedRest e - e) (boundOf n e) N (omega (arith, parted e, less-one e (omega arith), m))))
+    (as-told e r c _ hc (told X r e (raisedRest e + e) (boundOf n e) N (omega (arith, parted e, m))))
+    (as-told (e + 1) r d _ hd (told X r (e + 1) (raisedRest e + 3 * e + 2) (boundOf n e) N (omega (arith, parted e, more-one e, m))))

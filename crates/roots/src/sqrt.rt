@@ -1,6 +1,7 @@
 // The square root of any f64: the nearest f64, whose proof compares integer squares. A root of not-a-number or of a negative number is not-a-number.
-// Own design: the seed of `seed`, one Heron step, then a correction against the square of a whole number. Correctly rounded.
+// Own design: the seed of `seed`, one Heron step, then a correction by comparing whole squares. Correctly rounded.
 ghost use mathlib.Core.Path.{_≡_};
+ghost use mathlib.Core.Bool.{cond};
 ghost use Prim.Native.Nat.{_+_, _*_, _^_, _≤_, _<_};
 ghost use lib.Dec.{ltb};
 ghost use lib.Ieee.{binary64, ofBits};
@@ -10,43 +11,35 @@ use crate::seed::twice_root;
 use machine::bits::pattern;
 use machine::constants::not_a_number;
 
-// Whether the root of n * 2^52 is above s + 1/2, that is s * s + s < n * 2^52: with s = h * 2^26 + l both sides fit 64 bits.
-fn above(n: u64, s: u64) -> bool
-    requires { ⌜ s < 2 ^ 55 ⌝ }
-    ensures { λ r. ⌜ r ≡ ltb (s * s + s) (n * 2 ^ 52) ⌝ }
+// What one comparison adds to a root.
+fn one_if_below(a: u64, b: u64) -> u64
+    ensures { λ r. ⌜ r ≡ cond (ltb a b) 1 0 ⌝ }
 {
-    let h = s / 0x4000000;
-    let l = s % 0x4000000;
-    h * h + (h * l + (l * l + s) / 0x8000000) / 0x2000000 < n
+    if a < b { 1 } else { 0 }
 }
 
-// An estimate within 3 of the nearest whole root is raised to it or stays above it, in 3 turns at most.
-fn raised(n: u64, estimate: u64) -> u64
-    requires { ⌜ (0 < n) × (n < 2 ^ 54) × (nearestRoot 53 (n * 2 ^ 52) ≤ estimate + 3) × (estimate ≤ nearestRoot 53 (n * 2 ^ 52) + 3) ⌝ }
-    ensures { λ r. ⌜ (nearestRoot 53 (n * 2 ^ 52) ≤ r) × (r ≤ nearestRoot 53 (n * 2 ^ 52) + 3) ⌝ }
-{
-    let mut s = estimate;
-    while above(n, s) {
-        s += 1;
-    }
-    s
-}
-
-// From there it is lowered to the nearest whole root, in 3 turns at most.
-fn lowered(n: u64, estimate: u64) -> u64
-    requires { ⌜ (0 < n) × (n < 2 ^ 54) × (nearestRoot 53 (n * 2 ^ 52) ≤ estimate) × (estimate ≤ nearestRoot 53 (n * 2 ^ 52) + 3) ⌝ }
+// An estimate e within 2 of the nearest whole root of n * 2^52 is brought to it: e - 2, and 1 for each s from there to e + 1 whose middle s + 1/2 is below the root,
+// that is s * s + s < n * 2^52. The four differ from e * e by -3e + 2, -e, e and 3e + 2. With e = h * 2^26 + l and whole multiples of 2^52 taken off, all fits 64 bits.
+// No comparison is a branch: the processor would guess wrong in one call of five.
+fn corrected(n: u64, e: u64) -> u64
+    requires { ⌜ (2 ^ 52 ≤ n) × (n < 2 ^ 54) × (nearestRoot 53 (n * 2 ^ 52) ≤ e + 2) × (e ≤ nearestRoot 53 (n * 2 ^ 52) + 2) ⌝ }
     ensures { λ r. ⌜ r ≡ nearestRoot 53 (n * 2 ^ 52) ⌝ }
 {
-    let mut s = estimate;
-    while !above(n, s - 1) {
-        s -= 1;
-    }
-    s
+    let h = e / 0x4000000;
+    let l = e % 0x4000000;
+    let m = h * l;
+    let bound = (n + 16 - (h * h + m / 0x2000000)) * 0x0010000000000000;
+    let rest = m % 0x2000000 * 0x8000000 + l * l + 0x0100000000000000;
+    e - 2
+        + one_if_below(rest + 2 - 3 * e, bound)
+        + one_if_below(rest - e, bound)
+        + one_if_below(rest + e, bound)
+        + one_if_below(rest + 3 * e + 2, bound)
 }
 
-// The f64 steps, to 3 units: twice the root lies near [2, 4), where one pattern more is one unit of the root's 53 digits more.
+// The f64 steps, to 2 units: twice the root lies near [2, 4), where one pattern more is one unit of the root's 53 digits more.
 fn estimate(u: u64) -> u64
-    ensures { λ r. ⌜ (nearestRoot 53 (scaled (folded u) * 2 ^ 52) ≤ r + 3) × (r ≤ nearestRoot 53 (scaled (folded u) * 2 ^ 52) + 3) ⌝ }
+    ensures { λ r. ⌜ (nearestRoot 53 (scaled (folded u) * 2 ^ 52) ≤ r + 2) × (r ≤ nearestRoot 53 (scaled (folded u) * 2 ^ 52) + 2) ⌝ }
 {
     f64::to_bits(twice_root(u)) - 0x3FF0000000000000
 }
@@ -61,7 +54,7 @@ fn digits(u: u64) -> u64
     } else {
         w * 2
     };
-    lowered(n, raised(n, estimate(u)))
+    corrected(n, estimate(u))
 }
 
 // A subnormal number is first brought to full width, by an even power of two: the field 1 or 2 says which.

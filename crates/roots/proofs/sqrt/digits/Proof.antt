@@ -25,7 +25,7 @@ estimate-requires c κs = search needs
 same : (u : ℕ) → (u % 2 ^ 53 + 2 ^ 52) % 2 ^ 53 ≡ folded u
 same u = omega arith
 
-number : (c : tie.Joined1) → (c .if1 .n ≡ scaled (folded (c .before .args .u))) × (0 < c .if1 .n) × (c .if1 .n < 2 ^ 54)
+number : (c : tie.Joined1) → (c .if1 .n ≡ scaled (folded (c .before .args .u))) × (2 ^ 52 ≤ c .if1 .n) × (c .if1 .n < 2 ^ 54)
 number c =
     let u = c .before .args .u in
     let n = c .if1 .n in
@@ -35,17 +35,18 @@ number c =
     (λ a. let e : n ≡ w * 2 = a .1 in let h : 2 ^ 52 ≤ w = a .0 .left in (e ∙ sym (high-scaled w h) ∙ ap scaled (same u), omega arith, omega arith))
     (c .if1 .came)
 
-raised-requires : tie.Need-raised-requires
-raised-requires c κs =
+corrected-requires : tie.Need-corrected-requires
+corrected-requires c κs =
     let n = number (c .before) in
-    let e = c .estimate .ensures in
-    (n .1, n .2, subst (λ (m : ℕ). nearestRoot 53 (m * 2 ^ 52) ≤ c .estimate .result + 3) (sym (n .0)) (e .0), subst (λ (m : ℕ). c .estimate .result ≤ nearestRoot 53 (m * 2 ^ 52) + 3) (sym (n .0)) (e .1))
-
-lowered-requires : tie.Need-lowered-requires
-lowered-requires c κs = let n = number (c .before .before) in (n .1, n .2, c .raised .ensures .0, c .raised .ensures .1)
+    let e = c .estimate .ensures in (
+      n .1,
+      n .2,
+      subst (λ (m : ℕ). nearestRoot 53 (m * 2 ^ 52) ≤ c .estimate .result + 2) (sym (n .0)) (e .0),
+      subst (λ (m : ℕ). c .estimate .result ≤ nearestRoot 53 (m * 2 ^ 52) + 2) (sym (n .0)) (e .1),
+    )
 
 returns : tie.Need-returns
-returns c = c .lowered .ensures ∙ ap (λ (n : ℕ). nearestRoot 53 (n * 2 ^ 52)) (number (c .before .before .before) .0)
+returns c = c .corrected .ensures ∙ ap (λ (n : ℕ). nearestRoot 53 (n * 2 ^ 52)) (number (c .before .before) .0)
 
 pub digits-spec : {M : Type 1} → statement M
-digits-spec = tie.close (tie.spec add-w add-n mul-n estimate-requires raised-requires lowered-requires returns)
+digits-spec = tie.close (tie.spec add-w add-n mul-n estimate-requires corrected-requires returns)

@@ -28,7 +28,7 @@ returns : tie.Need-returns
 returns c =
     let u = c .before .args .u in
     let s = sqrt-corrections u in
-    subst (λ (z : Float). (rootOf u ≤ toBits binary64 z - 1023 * 2 ^ 52 + 3) × (toBits binary64 z - 1023 * 2 ^ 52 ≤ rootOf u + 3)) (sym (c .twice-root .ensures)) (s .1, s .2)
+    subst (λ (z : Float). (rootOf u ≤ toBits binary64 z - 1023 * 2 ^ 52 + 2) × (toBits binary64 z - 1023 * 2 ^ 52 ≤ rootOf u + 2)) (sym (c .twice-root .ensures)) (s .1, s .2)
 
 pub estimate-spec : {M : Type 1} → statement M
 estimate-spec = tie.close (tie.spec twice-root-requires float-to-bits-result sub-result returns)

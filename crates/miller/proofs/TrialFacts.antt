@@ -1,11 +1,23 @@
--- The trials of the start search as the loop takes them: one trial more, the first that meets the test, and none. Assumes nothing.
-use mathlib.Core.Path.{_≡_}
+-- The trials of the start search as the loop takes them: a value above zero, one trial more, the first that meets the test, and none. Assumes nothing.
+use mathlib.Core.Path.{_≡_, refl}
+use mathlib.Core.Bool.{true, false}
 use Prim.Native.Nat.{ℕ, _+_, _≤_, _<_}
 use native.Mathlib.Numerals.{add-one}
 use borrow.Author.Tests.{le-leb, lt-leb}
-use lib.Ieee.{Float}
+use lib.Dec.{T}
+use lib.Ieee.{Float, nan, inf, fin, binary64, ofBits, lt}
+use Rattle.roots.specs.Hypot.{magnitudeOf}
 use Rattle.miller.specs.declared.search.Start.the-variants.{At, Unmet}
 use Rattle.miller.specs.Trials.{nextTrial, trialAfter, trialsTaken, trialIndex}
+
+-- a value above zero is its own magnitude
+pub magnitude-above : (p : Float) → T (lt (ofBits binary64 0) p) → magnitudeOf p ≡ p
+unfolding ofBits lt
+magnitude-above nan h = absurd h
+magnitude-above (inf true) h = absurd h
+magnitude-above (inf false) h = refl
+magnitude-above (fin true m e) h = absurd h
+magnitude-above (fin false m e) h = refl
 
 module _ (modulus square : Float) where
   pub trial-next : (i : ℕ) → nextTrial modulus square (i + 1) (trialAfter modulus square i) ≡ trialAfter modulus square (i + 1)

@@ -32,6 +32,10 @@ threshold = ofBits binary64 0x403CAAAAAAAAAAAA
 unfoldable pub angleCorrection : Float → Float → Float
 angleCorrection modulus angle = ofBits binary64 0x3FFE8EC8A4AEACC4 ⊗ angle ⊗ sqrtOf (threshold ⊘ modulus)
 
+-- none on the real path
+unfoldable pub correctionOf : Point → Float
+correctionOf point = cond (isReal (point .z)) (ofBits binary64 0) (angleCorrection (point .modulus) (point .angle))
+
 unfoldable pub rawStart : Point → ℕ → Float
 rawStart point index = cond (isReal (point .z)) (whole index) (whole index ⊕ angleCorrection (point .modulus) (point .angle))
 

@@ -1,7 +1,7 @@
 // How many backward steps Miller's seeds begin with: to |z| = (2/3)·52 - 6 by a formula in |z| and the angle, above by trials, corrected by the angle.
 // From src/amos/right_half_plane.rs, determine_miller_starting_k. Promised for every argument: specs/Search.antt; a start is at most 256.
 ghost use mathlib.Core.Path.{_≡_};
-ghost use Rattle.miller.specs.Search.{startFrom, angleCorrection, rawStart, byRecurrence, curveOf, formulaOf, startOf};
+ghost use Rattle.miller.specs.Search.{startFrom, angleCorrection, correctionOf, rawStart, byRecurrence, curveOf, formulaOf, startOf};
 use crate::point::Order;
 use crate::point::Point;
 use crate::point::is_real;
@@ -39,16 +39,28 @@ fn angle_correction(modulus: f64, angle: f64) -> f64
     1.909859317102744 * angle * sqrt(THRESHOLD / modulus)
 }
 
-fn raw_start(point: Point, index: u32) -> f64
+// What the angle adds to the index that the trials find: nothing on the real path.
+fn correction(point: Point) -> f64
+    ensures { λ r. ⌜ r ≡ correctionOf point ⌝ }
+{
+    if is_real(point.z) {
+        return 0.0;
+    }
+    angle_correction(point.modulus, point.angle)
+}
+
+fn raw_start(point: Point, index: u32, added: f64) -> f64
+    requires { ⌜ added ≡ correctionOf point ⌝ }
     ensures { λ r. ⌜ r ≡ rawStart point index ⌝ }
 {
     let raw = index as f64;
     if is_real(point.z) {
         return raw;
     }
-    raw + angle_correction(point.modulus, point.angle)
+    raw + added
 }
 
+// The correction does not depend on the trials: it stands before them, so that its root is taken while they run.
 fn by_recurrence(point: Point, order: Order) -> Start
     ensures { λ r. ⌜ r ≡ byRecurrence point order ⌝ }
 {
@@ -57,9 +69,10 @@ fn by_recurrence(point: Point, order: Order) -> Start
     if test <= 1.0 {
         return Start::At(1);
     }
+    let added = correction(point);
     let found = trial_index(modulus, order.square, test);
     match found {
-        Start::At(index) => start_from(raw_start(point, index)),
+        Start::At(index) => start_from(raw_start(point, index, added)),
         Start::Unmet => Start::Unmet,
     }
 }

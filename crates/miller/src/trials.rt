@@ -26,10 +26,14 @@ fn next_trial(modulus: f64, square: f64, i: u32, t: Trial) -> Trial
     }
 }
 
+// A value above zero is its own magnitude: compared as it is, it need not pass through its bits, for which the loop would wait.
 fn is_met(test: f64, i: u32, p: f64) -> bool
     requires { ⌜ i ≤ 30 ⌝ }
     ensures { λ r. ⌜ r ≡ isMet test i p ⌝ }
 {
+    if p > 0.0 {
+        return test < p * (i + 1) as f64;
+    }
     test < magnitude(p) * (i + 1) as f64
 }
 

@@ -10,6 +10,9 @@ returns : tie.Need-returns
 unfolding byRecurrence convergenceTest tolerance
 returns c = simp (c .if1 .taken)
 
+correction-requires : tie.Need-correction-requires
+correction-requires c κs = search needs
+
 trial-index-requires : tie.Need-trial-index-requires
 trial-index-requires c κs = search needs
 
@@ -30,19 +33,20 @@ unfolding byRecurrence convergenceTest corrected tolerance
 returns-2 c = simp (
   c .start-from .ensures,
   c .before .raw-start .ensures,
-  c .before .before .before .before .before .before .if1 .left,
+  c .before .before .before .before .before .before .before .if1 .left,
   sym (c .before .before .before .before .before .trial-index .ensures) ∙ c .before .before .before .found .given .1,
 )
 
 returns-3 : tie.Need-returns-3
 unfolding byRecurrence convergenceTest corrected tolerance
-returns-3 c = simp (c .before .before .before .if1 .left, sym (c .before .before .trial-index .ensures) ∙ c .enum-told .given .1)
+returns-3 c = simp (c .before .before .before .before .if1 .left, sym (c .before .before .trial-index .ensures) ∙ c .enum-told .given .1)
 
 pub by-recurrence-spec : {M : Type 1} → statement M
 by-recurrence-spec =
     tie.close
     (tie.spec
     returns
+    correction-requires
     trial-index-requires
     enum-known-found
     raw-start-requires

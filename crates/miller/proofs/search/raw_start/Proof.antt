@@ -1,6 +1,6 @@
--- `miller::search::raw_start` meets its contract: the real path takes no correction. Assumes nothing.
+-- `miller::search::raw_start` meets its contract: the real path takes no correction, and off it the number handed in is the angle's. Assumes nothing.
 use mathlib.Core.Path.{sym, _∙_}
-use Rattle.miller.specs.Search.{rawStart}
+use Rattle.miller.specs.Search.{correctionOf, rawStart}
 use borrow.Author.Needs.{needs}
 use Rattle.miller.proofs.search.raw_start.Statement.{statement}
 use Rattle.miller.proofs.search.raw_start.Tie as tie
@@ -15,14 +15,9 @@ returns : tie.Need-returns
 unfolding rawStart
 returns c = simp (sym (c .before .is-real .ensures) ∙ c .if1 .taken)
 
-angle-correction-requires : tie.Need-angle-correction-requires
-angle-correction-requires c κs = search needs
-
 returns-2 : tie.Need-returns-2
-unfolding rawStart
-returns-2 c = simp (c .angle-correction .ensures, sym (c .before .before .is-real .ensures) ∙ c .before .if1 .left)
+unfolding correctionOf rawStart
+returns-2 c = simp (c .before .before .before .pre, sym (c .before .is-real .ensures) ∙ c .if1 .left)
 
 pub raw-start-spec : {M : Type 1} → statement M
-raw-start-spec =
-    tie.close
-    (tie.spec int-to-float-raw is-real-requires returns angle-correction-requires returns-2)
+raw-start-spec = tie.close (tie.spec int-to-float-raw is-real-requires returns returns-2)

@@ -3,6 +3,7 @@ pub mod Counted
 pub mod DifferenceBound
 pub mod GammasAtZero
 pub mod Magnitudes
+pub mod StartAtZero
 pub mod TemmeBound
 pub mod Zeros
 pub mod WholeShares

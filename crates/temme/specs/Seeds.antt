@@ -31,21 +31,25 @@ quarterSquare m = quarter ⊗ m ⊗ m
 unfoldable pub groundOf : Complex → Float → Float → Float → Ground
 groundOf z m v w = record { «z_sqr_over_4» = timesReal (powerOf z 2) quarter; «abs_z_sqr_over_4» = quarterSquare m; fraction = v; «fraction_square» = w }
 
--- the sums before their first term, from the reciprocal gammas and from e^μ, cosh μ and sinh μ over the fraction
-unfoldable pub startOf : Gammas → Complex → Complex → Complex → Terms
-startOf g exp cosh shinc =
-    let coeff = timesReal (plusOf (timesReal cosh (g .difference)) (timesReal shinc (g .mean))) (g .«one_over_sinc») in
-    let neg = overReal (timesReal exp half) (g .plus) in
+-- the sums before their first term, from the three that a term is made of
+abbrev pub begunOf : Complex → Complex → Complex → Terms
+begunOf coeff neg pos =
     record {
       «temme_coeff» = coeff;
       «neg_order_term» = neg;
-      «pos_order_term» = overReal (realOver half exp) (g .minus);
+      «pos_order_term» = pos;
       «taylor_factor» = record { re = one; im = ofBits binary64 0 };
       «term_magnitude» = one;
       «sum_k_nu» = coeff;
       «sum_k_nu_plus_1» = neg;
       terms = 0;
     }
+
+-- those three from the reciprocal gammas and from e^μ, cosh μ and sinh μ over the fraction
+unfoldable pub startOf : Gammas → Complex → Complex → Complex → Terms
+startOf g exp cosh shinc =
+    let coeff = timesReal (plusOf (timesReal cosh (g .difference)) (timesReal shinc (g .mean))) (g .«one_over_sinc») in
+    begunOf coeff (overReal (timesReal exp half) (g .plus)) (overReal (realOver half exp) (g .minus))
 
 -- nothing is added below |z| = 2^-52
 unfoldable pub summedOf : Complex → Float → Float → Float → Terms → Terms

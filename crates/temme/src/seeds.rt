@@ -1,7 +1,7 @@
 // The two seeds from Temme's sum, and sinh μ over the fraction with μ = fraction · ln(2/z), by which the caller tells an overflow.
 // From src/amos/right_half_plane.rs, compute_small_z_power_series (ZBKNU). Promised for every argument: specs/Seeds.antt; below |z| = 2^-52 no term is added.
 ghost use mathlib.Core.Path.{_≡_};
-ghost use Rattle.temme.specs.Seeds.{shincOf, startOf, groundOf, summedOf, seedsOf};
+ghost use Rattle.temme.specs.Seeds.{shincOf, begunOf, startOf, groundOf, summedOf, seedsOf};
 use crate::gammas::Gammas;
 use crate::gammas::gammas_at;
 use crate::hyperbolic::hyperbolic;
@@ -55,14 +55,36 @@ fn over_fraction(ln_two_over_z: Complex, sinh: Complex, fraction: f64) -> Comple
     sinh.over_real(fraction)
 }
 
+// At the fraction 0 e^μ is (1, ±0) and the reciprocal gammas are 1: nothing is divided there. Both terms stand behind one test, which stays a branch:
+// behind a test of its own the first term's few divisions are done in either case, and the answer picked afterwards.
 fn start(g: Gammas, exp: Complex, cosh: Complex, shinc: Complex) -> Terms
     ensures { λ r. ⌜ r ≡ startOf g exp cosh shinc ⌝ }
 {
     let temme_coeff = cosh.times_real(g.difference)
         .plus(shinc.times_real(g.mean))
         .times_real(g.one_over_sinc);
+    if g.plus == 1.0 {
+        if g.minus == 1.0 {
+            if exp.re == 1.0 {
+                if exp.im == 0.0 {
+                    let neg_order_term = Complex {
+                        re: 0.5,
+                        im: exp.im,
+                    };
+                    let pos_order_term = Complex { re: 0.5, im: 0.0 };
+                    return begun(temme_coeff, neg_order_term, pos_order_term);
+                }
+            }
+        }
+    }
     let neg_order_term = exp.times_real(0.5).over_real(g.plus);
     let pos_order_term = real_over(0.5, exp).over_real(g.minus);
+    begun(temme_coeff, neg_order_term, pos_order_term)
+}
+
+fn begun(temme_coeff: Complex, neg_order_term: Complex, pos_order_term: Complex) -> Terms
+    ensures { λ r. ⌜ r ≡ begunOf «temme_coeff» «neg_order_term» «pos_order_term» ⌝ }
+{
     Terms {
         temme_coeff,
         neg_order_term,

@@ -1,4 +1,4 @@
--- The order and the modulus of an admitted call: no minus sign, at most 1,000, and at most 2^16. Assumes nothing.
+-- The order and the modulus of an admitted call: no minus sign, at most 1,000, and at most 2^16; and the modulus is that of its argument. Assumes nothing.
 use mathlib.Core.Path.{_≡_, refl, sym, _∙_, subst}
 use mathlib.Core.Bool.{Bool, true, false, cond, _&&_}
 use Prim.Native.Nat.{ℕ, _*_, _^_, _≤_, _<_}
@@ -21,7 +21,7 @@ use Rattle.bessel.specs.declared.classify.Verdict.the-variants.{Admitted
 use Rattle.bessel.specs.Arguments.{nothing, largestOrder, largestPart, normalisedOf, argumentsOf, areFinite, orderInside, sizeInside}
 use Rattle.bessel.specs.Classify.{classifyOf}
 use Rattle.bessel.proofs.ClassifyFacts.{Passed, admitted}
-use Rattle.bessel.proofs.ModulusBound.{modulus-up}
+use Rattle.right_half_plane.proofs.ModulusBound.{modulus-up}
 
 -- ---- a value without -0
 without : (x : Float) (b : Bool) → eq x nothing ≡ b → T (finite (cond b nothing x)) → T (le nothing (cond b nothing x)) → T (nonnegative (cond b nothing x))
@@ -106,3 +106,7 @@ pub admitted-order : (kind : Kind) (v re im : Float) (length : ℕ) (a : Argumen
 admitted-order kind v re im length a e =
     let q = admitted kind v re im length a e in
     subst (λ (b : Arguments). T (nonnegative (b .order)) × T (le (b .order) largestOrder)) (sym (q .0)) (order-limits kind v re im length (q .1))
+
+pub admitted-modulus : (kind : Kind) (v re im : Float) (length : ℕ) (a : Arguments) → classifyOf kind v re im length ≡ Admitted a → a .modulus ≡ modulusOf (a .z)
+unfolding argumentsOf
+admitted-modulus kind v re im length a e = subst (λ (b : Arguments). b .modulus ≡ modulusOf (b .z)) (sym (admitted kind v re im length a e .0)) refl

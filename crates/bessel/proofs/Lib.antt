@@ -7,7 +7,6 @@ pub mod KernelFacts
 pub mod Numbers
 pub mod OutcomeFacts
 pub mod SeriesOutcome
-pub mod ModulusBound
 pub mod ArgumentFacts
 pub mod SumsEnd
 pub mod KernelOutcome

@@ -8,6 +8,7 @@ ghost use lib.Dec.{T};
 ghost use lib.Ieee.{le};
 ghost use lib.ListN.{length};
 ghost use Rattle.laws.proofs.Relative.{nonnegative};
+ghost use Rattle.complex.specs.Functions.{modulusOf};
 ghost use Rattle.right_half_plane.specs.Kernel.{afterwards};
 ghost use Rattle.bessel.specs.Arguments.{largestOrder, lengthInside};
 ghost use Rattle.bessel.specs.K.{Fewer, concludedOf, kernelOutcome, kOutcome};
@@ -39,7 +40,7 @@ fn concluded(outcome: Outcome, out: &mut [f64]) -> Answer
 }
 
 fn by_kernel(scaled: bool, a: Arguments, out: &mut [f64]) -> Answer
-    requires { ⌜ (lengthInside (length (now out)) ≡ true) × T (nonnegative (a .order)) × T (le (a .order) largestOrder) ⌝ }
+    requires { ⌜ (lengthInside (length (now out)) ≡ true) × T (nonnegative (a .order)) × T (le (a .order) largestOrder) × (a .modulus ≡ modulusOf (a .z)) ⌝ }
     ensures { λ r. ⌜ (r ≡ kernelOutcome scaled a (length (now (out .entry))) .answer) × (now (out .exit) ≡ kernelOutcome scaled a (length (now (out .entry))) .cells) ⌝ }
 {
     let z = a.z;

@@ -96,8 +96,12 @@ otherSeeds g scaled =
     cond (isHalf (g .fraction)) (halfSeeds underflow value)
     (millerSeeds underflow (miller.seedsOf (pointWith (g .z) (g .modulus) root angle) (orderOf (g .fraction) (g .square)) value (isAlone g)))
 
+-- ---- Temme's sum is for |z| to 2, at a fraction other than ±0.5
+abbrev pub two : Float
+two = ofBits binary64 0x4000000000000000
+
 unfoldable pub isNear : Ground → Bool
-isNear g = not (isHalf (g .fraction)) && le (g .modulus) (ofBits binary64 0x4000000000000000)
+isNear g = not (isHalf (g .fraction)) && le (g .modulus) two
 
 unfoldable pub seedOf : Ground → Bool → Seeded
 seedOf g scaled = cond (isNear g) (temmeSeeds g scaled) (otherSeeds g scaled)

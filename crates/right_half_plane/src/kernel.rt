@@ -7,6 +7,7 @@ ghost use lib.Dec.{T};
 ghost use lib.Ieee.{le};
 ghost use lib.ListN.{length};
 ghost use Rattle.laws.proofs.Relative.{nonnegative};
+ghost use Rattle.complex.specs.Functions.{modulusOf};
 ghost use Rattle.right_half_plane.specs.Ground.{largestOrder, Sized};
 ghost use Rattle.right_half_plane.specs.Kernel.{LeadFits, restRungs, restCells, leadCells, leadKernel, pairKernel, finishedKernel, kernelOf, afterwards};
 use crate::ground::Ground;
@@ -123,7 +124,7 @@ pub fn k_right_half_plane(
     modulus: f64,
     out: &mut [f64],
 ) -> Outcome
-    requires { ⌜ (0 < length (now out)) × (length (now out) % 2 ≡ 0) × (length (now out) ≤ 1024) × T (nonnegative order) × T (le order largestOrder) ⌝ }
+    requires { ⌜ (0 < length (now out)) × (length (now out) % 2 ≡ 0) × (length (now out) ≤ 1024) × T (nonnegative order) × T (le order largestOrder) × (modulus ≡ modulusOf z) ⌝ }
     ensures { λ r. ⌜ (r ≡ kernelOf scaled order z modulus (length (now (out .entry)) / 2) .outcome) × (now (out .exit) ≡ afterwards (kernelOf scaled order z modulus (length (now (out .entry)) / 2)) (now (out .entry))) ⌝ }
 {
     let g = prepare(order, z, modulus, (out.len() / 2) as u32);

@@ -1,7 +1,9 @@
 // The seed stage: K at the order's fraction and one above it, by Temme's sum for |z| to 2, by Miller's steps above, by neither at a fraction of ±0.5.
 // From src/amos/right_half_plane.rs, k_right_half_plane (ZBKNU). Promised: seedOf of specs/Seeds.antt. The modulus, 2/z and the angle are not worked out again.
 ghost use mathlib.Core.Path.{_≡_};
-ghost use Rattle.right_half_plane.specs.Seeds.{isHalf, growthState, growthOf, grownBy, temmePair, temmeSeeds, pointWith, rotationOf, orderOf, isFar, coefficientOf, farState, halfSeeds, millerSeeds, otherSeeds, isNear, seedOf};
+ghost use lib.Ieee.{le};
+ghost use Rattle.complex.specs.Functions.{modulusOf};
+ghost use Rattle.right_half_plane.specs.Seeds.{two, isHalf, growthState, growthOf, grownBy, temmePair, temmeSeeds, pointWith, rotationOf, orderOf, isFar, coefficientOf, farState, halfSeeds, millerSeeds, otherSeeds, isNear, seedOf};
 use crate::ground::Ground;
 use crate::ground::is_alone;
 use circular::cos_pi::cos_pi;
@@ -235,17 +237,41 @@ fn other_seeds(g: Ground, scaled: bool) -> Seeded
     miller_seeds(underflow, seeds_at(point, order, value, is_alone(g), found))
 }
 
+// Whether the modulus is at most 2. The parts are there before the modulus is, and mostly tell.
+fn within_two(z: Complex, modulus: f64) -> bool
+    requires { ⌜ modulus ≡ modulusOf z ⌝ }
+    ensures { λ r. ⌜ r ≡ le modulus two ⌝ }
+{
+    let re = magnitude(z.re);
+    let im = magnitude(z.im);
+    if re <= 1.40625 {
+        if im <= 1.40625 {
+            return true;
+        }
+    }
+    if re > 2.25 {
+        return false;
+    }
+    if im > 2.25 {
+        return false;
+    }
+    modulus <= 2.0
+}
+
 // Temme's sum is for |z| to 2, at a fraction other than ±0.5.
 fn is_near(g: Ground) -> bool
+    requires { ⌜ g .modulus ≡ modulusOf (g .z) ⌝ }
     ensures { λ r. ⌜ r ≡ isNear g ⌝ }
 {
     if is_half(g.fraction) {
         return false;
     }
-    g.modulus <= 2.0
+    let z = g.z;
+    within_two(z, g.modulus)
 }
 
 pub fn seed(g: Ground, scaled: bool) -> Seeded
+    requires { ⌜ g .modulus ≡ modulusOf (g .z) ⌝ }
     ensures { λ r. ⌜ r ≡ seedOf g scaled ⌝ }
 {
     if is_near(g) {

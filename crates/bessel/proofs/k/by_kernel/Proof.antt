@@ -13,7 +13,7 @@ k-right-half-plane-requires : tie.Need-k-right-half-plane-requires
 k-right-half-plane-requires c κs =
     let p = c .before .before .before .pre in
     let l = lent _ (p .0) in
-    (l .some, l .even, l .most, p .1, p .2)
+    (l .some, l .even, l .most, p .1, p .2, p .3)
 
 concluded-requires : tie.Need-concluded-requires
 concluded-requires c κs =

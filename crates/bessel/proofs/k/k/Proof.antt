@@ -1,7 +1,7 @@
 -- `bessel::k::k` meets its contract: the verdict, and what follows it. Assumes nothing.
 use mathlib.Core.Path.{sym, _∙_}
 use Rattle.bessel.proofs.ClassifyFacts.{admitted}
-use Rattle.bessel.proofs.ArgumentFacts.{admitted-order}
+use Rattle.bessel.proofs.ArgumentFacts.{admitted-order, admitted-modulus}
 use Rattle.bessel.specs.K.{kOutcomeOf, kOutcome}
 use borrow.Author.Needs.{needs}
 use Rattle.bessel.proofs.k.k.Statement.{statement}
@@ -18,7 +18,7 @@ by-kernel-requires c κs =
     let v = c .before .before in
     let e = sym (v .before .before .classify .ensures) ∙ v .verdict .given .1 in
     let o = admitted-order _ _ _ _ _ _ e in
-    (admitted _ _ _ _ _ _ e .1 .lent, o .0, o .1)
+    (admitted _ _ _ _ _ _ e .1 .lent, o .0, o .1, admitted-modulus _ _ _ _ _ _ e)
 
 enum-known-verdict-2 : tie.Need-enum-known-verdict-2
 enum-known-verdict-2 c = search needs

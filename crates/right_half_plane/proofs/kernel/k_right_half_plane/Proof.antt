@@ -1,6 +1,7 @@
 -- `right_half_plane::kernel::k_right_half_plane` meets its contract: by what the seed stage gives. Assumes nothing.
 use mathlib.Core.Path.{_≡_, refl, sym, ap, subst}
 use native.Mathlib.Omega.{arith}
+use Rattle.complex.specs.Functions.{modulusOf}
 use Rattle.right_half_plane.specs.declared.ground.Ground.{Ground}
 use Rattle.right_half_plane.specs.Ground.{Sized, groundOf}
 use Rattle.right_half_plane.specs.Kernel.{finishedKernel, refusedKernel, seedsKernel, afterIf, afterwards}
@@ -17,7 +18,8 @@ prepare-requires : tie.Need-prepare-requires
 prepare-requires c κs = search needs
 
 seed-requires : tie.Need-seed-requires
-seed-requires c κs = search needs
+unfolding groundOf
+seed-requires c κs = subst (λ (g : Ground). g .modulus ≡ modulusOf (g .z)) (sym (c .prepare .ensures)) (c .before .before .pre .5)
 
 enum-known-seeds : tie.Need-enum-known-seeds
 enum-known-seeds c = search needs

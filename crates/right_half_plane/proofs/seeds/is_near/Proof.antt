@@ -12,9 +12,12 @@ returns : tie.Need-returns
 unfolding isNear
 returns c = simp (sym (c .before .is-half .ensures) ∙ c .if1 .taken)
 
+within-two-requires : tie.Need-within-two-requires
+within-two-requires c κs = search needs
+
 returns-2 : tie.Need-returns-2
 unfolding isNear
-returns-2 c = simp (sym (c .before .before .is-half .ensures) ∙ c .before .if1 .left)
+returns-2 c = simp (c .within-two .ensures, sym (c .before .before .before .is-half .ensures) ∙ c .before .before .if1 .left)
 
 pub is-near-spec : {M : Type 1} → statement M
-is-near-spec = tie.close (tie.spec is-half-requires returns returns-2)
+is-near-spec = tie.close (tie.spec is-half-requires returns within-two-requires returns-2)

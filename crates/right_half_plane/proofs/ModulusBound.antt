@@ -96,7 +96,8 @@ smaller-up : Up smaller 1 (2 ^ 600)
 unfolding smaller ofBits
 smaller-up = up-test smaller 1 (2 ^ 600) tt
 
-summed-is : (x y : Float) → T (finite x) → T (finite y) → sumOfSquares x y ≡ add binary64 (round binary64 false (num x * num x) (den x * den x)) (round binary64 false (num y * num y) (den y * den y))
+-- the sum, of the squares of the parts' own fractions
+pub summed-is : (x y : Float) → T (finite x) → T (finite y) → sumOfSquares x y ≡ add binary64 (round binary64 false (num x * num x) (den x * den x)) (round binary64 false (num y * num y) (den y * den y))
 unfolding sumOfSquares
 summed-is x y f g =
     ap (λ (z : Float). add binary64 z (mul binary64 y y)) (square-round x (sign x) (num x) (den x) (den-pos x) (own-fraction x f))

@@ -2,7 +2,7 @@
 // The nearest whole number comes from an addition to 2^52, whose unit is 1, and the quarter turns from the sum's last bits.
 // Promised: the bits of the definitions for every argument.
 ghost use mathlib.Core.Path.{_≡_};
-ghost use Rattle.circular.specs.Reduce.{quartersOf, reduceOf, leading, withinTwo, halvesOf, reducePiOf};
+ghost use Rattle.circular.specs.Reduce.{quartersOf, reduceOf, leading, halvesOf, reducePiOf};
 use machine::bits::of_pattern;
 use machine::bits::pattern;
 
@@ -72,15 +72,6 @@ fn leading_digits(r: f64) -> f64
     of_pattern(bits - bits % 0x8000000)
 }
 
-fn within_two(a: f64) -> f64
-    ensures { λ r. ⌜ r ≡ withinTwo a ⌝ }
-{
-    if a > 1048576.0 {
-        return a % 2.0;
-    }
-    a
-}
-
 fn halves(a: f64) -> Reduced
     ensures { λ r. ⌜ r ≡ halvesOf a ⌝ }
 {
@@ -99,5 +90,9 @@ fn halves(a: f64) -> Reduced
 pub fn reduce_pi(a: f64) -> Reduced
     ensures { λ r. ⌜ r ≡ reducePiOf a ⌝ }
 {
-    halves(within_two(a))
+    // each way has its own call here too
+    if a > 1048576.0 {
+        return halves(a % 2.0);
+    }
+    halves(a)
 }

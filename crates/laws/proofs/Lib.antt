@@ -17,3 +17,4 @@ pub mod Sign
 pub mod Sweep
 pub mod Value
 pub mod Whole
+pub mod Zero

@@ -35,7 +35,8 @@ use Rattle.power_series.specs.Plain.{Something, Plain}
 use Rattle.power_series.specs.Step.{startDescent, loweredIf, leadingOf, markOf, scaleOf, longestOf, markedOf, coefficientIf, coefficientOf, isGone, keptOf, goneIf, summedOf, seedIf, seedOf, stepIf, stepOf}
 use Rattle.power_series.specs.Visit.{Visited, startWalk, isStopped, withEntry, nextWalk, walkOf, visitedOf, visitOf}
 use Rattle.power_series.proofs.WalkFacts.{stopping, stepping}
-use Rattle.power_series.proofs.UnitFacts.{zeroOf, zero-is, mul-one-float, mul-zero-float, sub-zero-float, zero-add-float}
+use Rattle.laws.proofs.Zero.{zeroOf, zero-is}
+use Rattle.power_series.proofs.UnitFacts.{mul-one-float, mul-zero-float, sub-zero-float, zero-add-float}
 
 -- ---- values at the zeros
 order-zero : (s : Bool) → orderAt (zeroOf s) 0 ≡ zeroOf false

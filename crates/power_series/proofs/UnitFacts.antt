@@ -1,37 +1,23 @@
 -- Sums with a zero and products with 1 and with a zero: which of them give the other operand back, and which a zero. General: for any f64. Assumes nothing.
-use mathlib.Core.Path.{_≡_, refl, sym, ap, _∙_, subst}
-use mathlib.Core.Bool.{Bool, true, false, _||_, Bool·beq, true≢false}
-use Prim.Native.Nat.{ℕ, zero, suc, _+_, _-_, _*_, _^_, _≤_, _<_}
+use mathlib.Core.Path.{_≡_, refl, sym, ap, _∙_}
+use mathlib.Core.Bool.{Bool, true, false, true≢false}
+use Prim.Native.Nat.{ℕ, zero, suc, _+_, _*_, _^_, _≤_, _<_}
 use native.Mathlib.Nat.{mul-pos, mul-one, zero-mul, mul-zero, lt-of-lt-of-le, mul-lt-mul-of-pos-right, le-of-eq, le-trans, zero-lt-suc}
 use lib.Pow.{pow-pos, pow-add, pow-mono}
 use native.Mathlib.Omega.{arith}
-use lib.IntN.{ℤ, pos}
-use lib.Dec.{T, ltb, eqb, eqb→eq, lit<}
+use lib.IntN.{ℤ}
+use lib.Dec.{T, lit<}
 use lib.Ieee.{Float, nan, inf, fin, binary64, ofBits, up, down, unlike, round, sum, fits, neg, add, sub, mul, eq}
 use lib.Ieee.Exact.{round-exact}
-use lib.Ieee.Fits.{and-l, up-pos, down-pos, round-fits}
+use lib.Ieee.Fits.{up-pos, down-pos, round-fits}
 use lib.Ieee.Scale.{finite}
 use borrow.Author.Tests.{lt-ltb, le-ltb}
 use Rattle.laws.proofs.Order.{round-zero}
 use Rattle.laws.proofs.Power.{unique, digits}
+use Rattle.laws.proofs.Zero.{zeroOf, zero-fits}
 use Rattle.laws.proofs.Sign.{add-comm-float}
 use Rattle.power_series.specs.Error.{one}
 use Rattle.power_series.specs.Plain.{Something}
-
-abbrev pub zeroOf : Bool → Float
-zeroOf s = fin s 0 (pos 0)
-
-zero-fits : (s : Bool) → T (fits binary64 (zeroOf s))
-unfolding fits
-zero-fits s = tt
-
-pub zero-is : (x : Float) → T (fits binary64 x) → eq x (ofBits binary64 0) ≡ true → (s : Bool) × (x ≡ zeroOf s)
-unfolding ofBits eq
-zero-is nan F h = absurd (true≢false (sym h))
-zero-is (inf s) F h = absurd (true≢false (sym h))
-zero-is (fin s m e) F h =
-    let v : m * up e * 1 ≡ 0 * 1 * down e = eqb→eq (m * up e * 1) (0 * 1 * down e) (and-l (eqb (m * up e * 1) (0 * 1 * down e)) (Bool·beq s false || eqb (m * up e * 1) 0) (subst T (sym h) tt)) in
-    (s, unique binary64 (fin s m e) (zeroOf s) s 0 1 0 1 (lit< tt) (lit< tt) F (zero-fits s) (refl, v) (refl, refl) refl)
 
 -- a value rounds to itself
 own-round : (s : Bool) (m : ℕ) (e : ℤ) → T (fits binary64 (fin s m e)) → round binary64 s (m * up e) (down e) ≡ fin s m e

@@ -6,7 +6,7 @@ use lib.Ieee.{Float, binary64, ofBits, fits, neg, lt, eq}
 use Rattle.circular.specs.CosPi.{cosPiOf}
 use Rattle.circular.proofs.Zeros.{cosPi-zero}
 use Rattle.complex.specs.Lost.{magnitudeOf}
-use Rattle.temme.proofs.Zeros.{zeroOf, zero-is}
+use Rattle.laws.proofs.Zero.{zeroOf, zero-is}
 use Rattle.right_half_plane.specs.Seeds.{rotationOf}
 use Rattle.recurrence.specs.State.{one}
 

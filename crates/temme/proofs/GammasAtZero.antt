@@ -12,7 +12,8 @@ use Rattle.temme.specs.declared.gammas.Gammas.{Gammas}
 use Rattle.temme.specs.Difference.{differenceOf}
 use Rattle.temme.specs.Gammas.{oneOverSinc, differenceQuotient, gammasOf}
 use Rattle.temme.specs.Sum.{one}
-use Rattle.temme.proofs.Zeros.{zeroOf, zero-is, exp-minus-zero}
+use Rattle.laws.proofs.Zero.{zeroOf, zero-is}
+use Rattle.temme.proofs.Zeros.{exp-minus-zero}
 
 one-plus : (s : Bool) → add binary64 one (zeroOf s) ≡ one
 unfolding ofBits add

@@ -1,33 +1,13 @@
 -- The terms that start the sum where e^μ is (1, ±0) and the reciprocal gammas are 1, as at the fraction 0: what their divisions give there. Assumes nothing.
-use mathlib.Core.Path.{_≡_, refl, sym, ap, _∙_, subst}
-use mathlib.Core.Bool.{Bool, true, false, true≢false}
-use Prim.Native.Nat.{ℕ, _*_, _<_}
-use native.Mathlib.Nat.{lt-irrefl, mul-pos}
-use lib.Dec.{T, eqb, eqb→eq, lit<}
-use lib.Ieee.{Float, nan, inf, fin, binary64, ofBits, up, down, fits, add, sub, mul, div, eq}
-use lib.Ieee.Bits.{ofBits-fits}
-use lib.Ieee.Fits.{and-l, and-r, down-pos}
-use Rattle.laws.proofs.Power.{unique}
+use mathlib.Core.Path.{_≡_, refl, sym, ap, _∙_}
+use mathlib.Core.Bool.{Bool, true, false}
+use lib.Dec.{T}
+use lib.Ieee.{Float, binary64, ofBits, fits, add, sub, mul, div, eq}
+use Rattle.laws.proofs.Zero.{zeroOf, zero-is, one-is}
 use Rattle.complex.specs.declared.number.Complex.{Complex}
 use Rattle.complex.specs.Arithmetic.{timesReal, overReal, normSquareOf, quotientOf, realOver}
 use Rattle.temme.specs.Sum.{one}
 use Rattle.temme.specs.Seeds.{half}
-use Rattle.temme.proofs.Zeros.{zeroOf, zero-is}
-
-pub one-is : (x : Float) → T (fits binary64 x) → eq x one ≡ true → x ≡ one
-unfolding ofBits eq
-one-is nan F h = absurd (true≢false (sym h))
-one-is (inf s) F h = absurd (true≢false (sym h))
-one-is (fin true m e) F h =
-    let a = m * up e * 1 in
-    let b = 1 * 1 * down e in
-    let t = subst T (sym h) tt in
-    let v : a ≡ b = eqb→eq a b (and-l (eqb a b) (eqb a 0) t) in
-    let n : a ≡ 0 = eqb→eq a 0 (and-r (eqb a b) (eqb a 0) t) in
-    absurd (lt-irrefl 0 (subst (λ (x : ℕ). 0 < x) (sym v ∙ n) (mul-pos (lit< tt) (down-pos e))))
-one-is (fin false m e) F h =
-    let v : m * up e * 1 ≡ 1 * 1 * down e = eqb→eq (m * up e * 1) (1 * 1 * down e) (and-l (eqb (m * up e * 1) (1 * 1 * down e)) true (subst T (sym h) tt)) in
-    unique binary64 (fin false m e) one false 1 1 1 1 (lit< tt) (lit< tt) F (ofBits-fits binary64 0x3FF0000000000000) (refl, v) (refl, refl) refl
 
 neg-signed : (t : Bool) → overReal (timesReal (record { re = one; im = zeroOf t }) half) one ≡ record { re = half; im = zeroOf t }
 unfolding overReal timesReal ofBits mul div

@@ -14,7 +14,7 @@ use Rattle.laws.proofs.Whole.{whole-value}
 use Rattle.laws.specs.Operators.{_⊕_, _⊖_, _⊗_, _⊘_}
 use Rattle.circular.proofs.Whole.{add-whole, sub-whole, mul-whole}
 use Rattle.temme.specs.Shares.{term, isWhole, shareOf, squareShareOf, wholeSharesOf, sharesOf}
-use Rattle.temme.proofs.Zeros.{zeroOf, zero-is}
+use Rattle.laws.proofs.Zero.{zeroOf, zero-is}
 
 -- ---- a whole number with a zero added or taken
 module _ (x : Float) (a : ℕ) (F : T (fits binary64 x)) (v : HasValue x false a 1) (h : a ≤ 2 ^ 53) where

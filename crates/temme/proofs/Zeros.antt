@@ -1,33 +1,15 @@
--- A value equal to 0 is one of the two zeros; what the functions that the fraction 0 asks for give there. Assumes nothing.
+-- What the functions that the fraction 0 asks for give there. Assumes nothing.
 use mathlib.Core.Path.{_≡_, refl, sym, ap, _∙_, subst}
-use mathlib.Core.Bool.{Bool, true, false, _||_, Bool·beq, true≢false}
-use Prim.Native.Nat.{_*_}
-use lib.IntN.{pos}
-use lib.Dec.{T, eqb, eqb→eq, lit<}
-use lib.Ieee.{Float, nan, inf, fin, binary64, ofBits, up, down, fits, neg, add, sub, mul, lt, le, eq}
-use lib.Ieee.Fits.{and-l}
-use Rattle.laws.proofs.Power.{unique}
+use mathlib.Core.Bool.{Bool, true, false}
+use lib.Dec.{T}
+use lib.Ieee.{binary64, ofBits, fits, neg, add, sub, mul, lt, le, eq}
+use Rattle.laws.proofs.Zero.{zeroOf, zero-is}
 use Rattle.exponential.specs.Exp.{limit, lowerLimit, shifted, steps, rest, expPair, total, expOf}
 use Rattle.exponential.proofs.ExpFacts.{exp-at-zero}
 use Rattle.complex.specs.declared.number.Complex.{Complex}
 use Rattle.complex.specs.Functions.{complexExpOf, complexCoshOf, complexSinhOf}
 use Rattle.complex.proofs.AtZero.{exp-zeros, cosh-zeros, sinh-zeros}
 use Rattle.temme.specs.Sum.{one}
-
-abbrev pub zeroOf : Bool → Float
-zeroOf s = fin s 0 (pos 0)
-
-zero-fits : (s : Bool) → T (fits binary64 (zeroOf s))
-unfolding fits
-zero-fits s = tt
-
-pub zero-is : (x : Float) → T (fits binary64 x) → eq x (ofBits binary64 0) ≡ true → (s : Bool) × (x ≡ zeroOf s)
-unfolding ofBits eq
-zero-is nan F h = absurd (true≢false (sym h))
-zero-is (inf s) F h = absurd (true≢false (sym h))
-zero-is (fin s m e) F h =
-    let v : m * up e * 1 ≡ 0 * 1 * down e = eqb→eq (m * up e * 1) (0 * 1 * down e) (and-l (eqb (m * up e * 1) (0 * 1 * down e)) (Bool·beq s false || eqb (m * up e * 1) 0) (subst T (sym h) tt)) in
-    (s, unique binary64 (fin s m e) (zeroOf s) s 0 1 0 1 (lit< tt) (lit< tt) F (zero-fits s) (refl, v) (refl, refl) refl)
 
 -- ---- e^-0, whose reduction is that of e^0
 near : (s : Bool) → expOf (zeroOf s) ≡ total (expPair (zeroOf s))

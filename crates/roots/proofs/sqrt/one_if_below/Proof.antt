@@ -1,5 +1,5 @@
 -- `roots::sqrt::one_if_below` meets its contract: the two arms. Assumes nothing.
-use mathlib.Core.Path.{_≡_, sym, ap}
+use mathlib.Core.Path.{sym, ap}
 use mathlib.Core.Bool.{Bool, cond}
 use borrow.Author.Tests.{lt-ltb, le-ltb}
 use Rattle.roots.proofs.sqrt.one_if_below.Statement.{statement}

@@ -7,7 +7,7 @@ import sys
 
 import count
 
-BESIDE = {"temme": 2100, "complex": 2000, "real": 1600, "half": 1200}
+BESIDE = {"temme": 2100, "complex": 1950, "real": 1600, "half": 1200}
 
 
 def word(x):
@@ -38,11 +38,11 @@ def k_budget(v, r, re, im, n, scaled, answer):
     path = "half" if abs(v - nearest) == 0.5 else "temme" if r <= 2 else "real" if im == 0 else "complex"
     # a refusal by 8 keeps its counts to itself: the most seen, and its cells filled
     terms, backward, filled = (18, 158, 2 * n) if answer[0] else (answer[2], answer[4], 0)
-    seeds = {"temme": 48 * terms, "complex": 32 * backward, "real": 18 * backward, "half": 0}[path]
+    seeds = {"temme": 51 * terms, "complex": 28 * backward, "real": 18 * backward, "half": 0}[path]
     if re > 664 and not scaled:
         # every value on the way may be tried
-        return 3000 + seeds + 860 * rungs + filled
-    return BESIDE[path] + seeds + 28 * (rungs - entries) + 40 * entries + filled
+        return 3000 + seeds + 720 * rungs + filled
+    return BESIDE[path] + seeds + 22 * (rungs - entries) + 30 * entries + filled
 
 
 def i_budget(n, exponent, answer):

@@ -2,7 +2,7 @@
    the best of many rounds. peers [ROUNDS] prints a table; with --inputs W it prints the arguments of a workload as hexadecimal patterns instead, for times.py. */
 #include "../../bindings/c/lichenoar.h"
 #include "../accuracy/small_644.h"
-#include <stdint.h>
+#include "../host/splitmix.h"
 #include <stdio.h>
 #include <stdlib.h>
 #include <string.h>
@@ -16,12 +16,7 @@ typedef struct {
 
 static uint64_t state;
 
-static uint64_t raw(void) {
-    uint64_t x = state += 0x9E3779B97F4A7C15u;
-    x = (x ^ x >> 30) * 0xBF58476D1CE4E5B9u;
-    x = (x ^ x >> 27) * 0x94D049BB133111EBu;
-    return x ^ x >> 31;
-}
+static uint64_t raw(void) { return splitmix64(&state); }
 
 static double unit(void) { return (double)(raw() >> 11) * 0x1p-53; }
 

@@ -7,31 +7,18 @@ angle.py --check  compare the files with what would be written, confirm the cons
                   polynomial's error; status 1 where something differs
 """
 import re
-import struct
 import sys
 from pathlib import Path
 
 from mpmath import mp, mpf
+
+from f64 import bits, nearest, of_bits
 
 mp.prec = 300
 STEPS = 64
 CRATE = Path(__file__).resolve().parents[2] / "crates" / "angle"
 # A3, A5, A7 of atan(v) = v + v^3 (A3 + z (A5 + z A7)), z = v^2, fitted for |v| <= 1/128
 COEFFICIENTS = (0xBFD5555555555547, 0x3FC999999918148B, 0xBFC248CEAD963C68)
-
-
-def nearest(value):
-    """The f64 nearest to a 300-bit number of the normal range: mpmath rounds to 53 bits, ties to even."""
-    with mp.workprec(53):
-        return float(+value)
-
-
-def bits(x):
-    return struct.unpack("<Q", struct.pack("<d", x))[0]
-
-
-def of_bits(b):
-    return struct.unpack("<d", struct.pack("<Q", b))[0]
 
 
 def split(value):

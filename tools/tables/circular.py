@@ -7,20 +7,14 @@
 
 2/pi, the parts of pi/2, 29 turns and the parts of pi are derived here. The coefficients of the two kernels are those of fdlibm's k_sin.c and
 k_cos.c; the check is that they give the sine and the cosine on [0, pi/4] to 2^-57, in exact arithmetic."""
-import math, os, random, re, struct, sys
+import math, os, random, re, sys
 from mpmath import mp, mpf
 import mpmath
 
+from f64 import bits, of_bits
+
 mp.prec = 400
 CRATE = os.path.join(os.path.dirname(os.path.abspath(__file__)), '..', '..', 'crates', 'circular')
-
-
-def of_bits(b):
-    return struct.unpack('<d', struct.pack('<Q', b))[0]
-
-
-def bits(x):
-    return struct.unpack('<Q', struct.pack('<d', x))[0]
 
 
 def nearest(x, digits=53):

@@ -7,33 +7,17 @@ leading 26 digits, cut off, and the nearest f64 of the rest, which is therefore 
 
 A table is a match, which the compiler turns into one constant in memory. An indexed array would be stored anew in each call.
 """
-import math
 import os
 import re
-import struct
 import sys
 
 import mpmath
 
+from f64 import bits, nearest, of_bits
+
 mpmath.mp.prec = 400
 CRATES = os.path.join(os.path.dirname(os.path.abspath(__file__)), '..', '..', 'crates')
 DIGITS = 26
-
-
-def bits(x):
-    return struct.unpack('>Q', struct.pack('>d', x))[0]
-
-
-def of_bits(b):
-    return struct.unpack('>d', struct.pack('>Q', b))[0]
-
-
-def nearest(v):
-    """The f64 nearest to v, ties to even."""
-    if v != 0 and mpmath.frexp(v)[1] < -1021:
-        return math.ldexp(int(mpmath.nint(mpmath.ldexp(v, 1074))), -1074)
-    with mpmath.workprec(53):
-        return float(+v)
 
 
 def split(v):

@@ -4,23 +4,13 @@
 The 22 coefficients B(2k)/(2k(2k-1)) of Stirling's series, DLMF 5.11.1, and ln((j-1)!) at index j = 1..100, each the nearest f64; index 0 is
 never asked for and holds 0. Writes src/tables.rt, specs/Tables.antt and the proofs that the two agree; with --check it writes nothing, compares the
 files, prints every number with its bits and its distance from the true value in units of its last place, and fails above one half."""
-import os, struct, sys
+import os, sys
 from mpmath import mp, mpf, bernoulli, loggamma, log, pi, frexp, nstr
+from f64 import bits, nearest, of_bits
 
 mp.prec = 300
 HERE = os.path.dirname(os.path.abspath(__file__))
 CRATE = os.path.join(HERE, '..', '..', 'crates', 'gamma_ln')
-
-
-def bits(x):
-    return struct.unpack('<Q', struct.pack('<d', x))[0]
-
-
-def nearest(x):
-    """The f64 nearest to an mpf, ties to even: mpmath rounds to 53 bits, and no value here is subnormal."""
-    with mp.workprec(53):
-        y = +x
-    return float(y)
 
 
 def true_values():
@@ -84,7 +74,7 @@ def distance(x, true):
 def report(tables, true):
     out, worst = [], mpf(0)
     rows = [('%s %d' % (row[0], i), x, t) for row, table, values in zip(TABLES, tables, true) for i, (x, t) in enumerate(zip(table, values))]
-    rows.append(('ln 2 pi', struct.unpack('<d', struct.pack('<Q', LN_2_PI))[0], log(2 * pi)))
+    rows.append(('ln 2 pi', of_bits(LN_2_PI), log(2 * pi)))
     for label, x, t in rows:
         d = distance(x, t)
         worst = max(worst, d)

@@ -5,28 +5,14 @@ Row j of 128 stands for the middle 1 + j/128 of a mantissa's piece: the reciproc
 (1 + j/128)*c - 1, which is exact; and -ln c as high + low, high being the nearest multiple of 2^-42 and low the f64 nearest to the rest.
 Writes src/tables.rt, specs/Tables.antt and the proof that they agree; with --check it writes nothing, compares the files, and tests every
 property named here, the two parts of ln 2, and the polynomial: within 2^-64 of ln(1 + r) - r at 2,001 points of |r| <= 3/512."""
-import os, struct, sys
+import os, sys
 from mpmath import mp, mpf, log, log1p, nint, floor
+from f64 import bits, nearest, of_bits
 
 mp.prec = 300
 HERE = os.path.dirname(os.path.abspath(__file__))
 CRATE = os.path.join(HERE, '..', '..', 'crates', 'logarithm')
 STEPS = 128
-
-
-def bits(x):
-    return struct.unpack('<Q', struct.pack('<d', x))[0]
-
-
-def value(b):
-    return struct.unpack('<d', struct.pack('<Q', b))[0]
-
-
-def nearest(x):
-    """The f64 nearest to an mpf, ties to even: mpmath rounds to 53 bits, and no value here is subnormal."""
-    with mp.workprec(53):
-        y = +x
-    return float(y)
 
 
 def rows():
@@ -102,14 +88,14 @@ def check(tables):
         assert mpf(k) == middle * mpf(c) - 1, j
         assert mpf(h) * 2 ** 42 == floor(mpf(h) * 2 ** 42), j
         assert abs(mpf(h) + mpf(l) + log(mpf(c))) < mpf(2) ** -96, j
-    high, low = value(LN2_HIGH), value(LN2_LOW)
+    high, low = of_bits(LN2_HIGH), of_bits(LN2_LOW)
     assert mpf(high) * 2 ** 42 == floor(mpf(high) * 2 ** 42)
     assert low == nearest(log(mpf(2)) - mpf(high))
     for j, (c, k) in enumerate(zip(tables[0], tables[1])):
         assert abs(k) + c / 256 <= 3 / 512, j
     for i in range(-1000, 1001):
         r = mpf(3) / 512 * i / 1000
-        polynomial = sum(mpf(value(b)) * r ** n for n, b in enumerate(COEFFICIENTS, 2))
+        polynomial = sum(mpf(of_bits(b)) * r ** n for n, b in enumerate(COEFFICIENTS, 2))
         assert abs(polynomial - (log1p(r) - r)) <= mpf(2) ** -64, i
 
 

@@ -4,22 +4,12 @@
 (1/Gamma(1-v) - 1/Gamma(1+v)) / 2v is less the sum of a(2i+1) v^(2i), where a(j) is the coefficient of x^j in 1/Gamma(1+x); each is the nearest f64.
 Writes them into src/difference.rt and specs/Difference.antt of crate temme; with --check it writes nothing, compares the files, prints every number
 with its bits and its distance from the true value in units of its last place, and fails above one half."""
-import os, re, struct, sys
+import os, re, sys
 from mpmath import mp, mpf, frexp, nstr, rgamma, taylor
+from f64 import bits, nearest
 
 mp.prec = 300
 CRATE = os.path.join(os.path.dirname(os.path.abspath(__file__)), '..', '..', 'crates', 'temme')
-
-
-def bits(x):
-    return struct.unpack('<Q', struct.pack('<d', x))[0]
-
-
-def nearest(x):
-    """The f64 nearest to an mpf, ties to even: mpmath rounds to 53 bits, and no value here is subnormal."""
-    with mp.workprec(53):
-        y = +x
-    return float(y)
 
 
 def put(path, pattern, text, check):

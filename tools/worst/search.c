@@ -2,6 +2,7 @@
    several. search KIND LARGEST_V LARGEST_N SECONDS SEED writes the longest calls found, one a line, as calls.h has them; KIND s is K with scaled calls alone. Times move
    with the machine, so what is found here is counted afterwards in instructions (climb.py). The seed fixes the draws; the clock decides what is kept. */
 #define _POSIX_C_SOURCE 200809L
+#include "../host/splitmix.h"
 #include "calls.h"
 #include <math.h>
 #include <stdio.h>
@@ -18,13 +19,7 @@ struct found {
 
 static uint64_t seed;
 
-/* splitmix64 */
-static uint64_t bits(void) {
-    uint64_t z = seed += 0x9E3779B97F4A7C15u;
-    z = (z ^ z >> 30) * 0xBF58476D1CE4E5B9u;
-    z = (z ^ z >> 27) * 0x94D049BB133111EBu;
-    return z ^ z >> 31;
-}
+static uint64_t bits(void) { return splitmix64(&seed); }
 
 static unsigned below(unsigned n) { return (unsigned)(bits() % n); }
 

@@ -3,16 +3,14 @@
 # itself. Elsewhere it is the same LLVM module, compiled for this processor (tools/host/module.sh). ./check holds the two to the same grid and the same special values.
 set -eu
 cd "$(dirname "$0")/../.."
-. tools/host/kit.sh
 . tools/host/module.sh
-mkdir -p target/host
 if [ "$(uname -m)" = x86_64 ]; then
-    [ -f target/staticlib/libcapi.a ] || rt staticlib capi > target/host/log 2>&1 || { tail -n 20 target/host/log; exit 1; }
+    [ -f target/staticlib/libcapi.a ] || quiet rt staticlib capi
     cp target/staticlib/libcapi.a target/host/libcapi.a
     exit 0
 fi
 keep_module
-RATTLE_HOME=$shadow rt staticlib capi > target/host/log 2>&1 || { tail -n 20 target/host/log; exit 1; }
+quiet env RATTLE_HOME="$shadow" rt staticlib capi
 for_host target/host/capi.o
 rm -f target/host/libcapi.a
 "$kit_tools/bin/llvm-ar" rcs target/host/libcapi.a target/host/capi.o

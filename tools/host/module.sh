@@ -1,7 +1,12 @@
-# Sourced after kit.sh, from the repository's root: the LLVM module that `rt` hands to the kit's compiler, kept, and compiled for the processor of this machine with
+# Sourced from the repository's root: the LLVM module that `rt` hands to the kit's compiler, kept, and compiled for the processor of this machine with
 # no operations joined (no fused multiply-add): the same f64 steps, hence the same bits.
+. tools/host/kit.sh
 shadow=$PWD/target/host/kit
 module=$PWD/target/host/module.bc
+mkdir -p target/host
+
+# quiet WORDS..: runs a command; where it fails, ends with the last that it said
+quiet() { "$@" > target/host/log 2>&1 || { tail -n 20 target/host/log; exit 1; }; }
 
 # keep_module: makes target/host/kit, a kit whose compiler also keeps the module that it is handed. RATTLE_HOME=$shadow rt .. uses it.
 keep_module() {

@@ -1,5 +1,4 @@
 -- What the functions rest on, and what is shown of the outcomes besides.
-pub mod CellFacts
 pub mod LengthFacts
 pub mod ClassifyFacts
 pub mod SeriesFacts

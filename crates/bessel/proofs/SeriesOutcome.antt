@@ -24,7 +24,7 @@ use Rattle.bessel.specs.declared.classify.Verdict.{Verdict}
 use Rattle.bessel.specs.declared.classify.Verdict.the-variants.{Admitted, Refused}
 use Rattle.bessel.specs.Arguments.{argumentsOf, lengthInside, areFinite}
 use Rattle.bessel.specs.Answer.{answeredOf, refusedOf}
-use Rattle.bessel.specs.Cells.{allFinite}
+use Rattle.cells.specs.AllFinite.{allFinite}
 use Rattle.bessel.specs.Classify.{zeroRefused, seriesRefused, classifyOf}
 use Rattle.bessel.specs.Outcome.{Outcome, refusedOutcome, judgedIf, judgedOf}
 use Rattle.bessel.specs.I.{visitAnswer, visitedOutcome, seriesOutcome, iOutcomeOf, iOutcome}

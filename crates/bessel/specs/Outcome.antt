@@ -9,7 +9,7 @@ use Rattle.refusal.specs.declared.refusal.Refusal.{Refusal}
 use Rattle.refusal.specs.declared.refusal.Refusal.the-variants.{Overflow}
 use Rattle.bessel.specs.declared.answer.Answer.{Answer}
 use Rattle.bessel.specs.Answer.{refusedOf}
-use Rattle.bessel.specs.Cells.{allFinite}
+use Rattle.cells.specs.AllFinite.{allFinite}
 
 pub record Outcome : Type 0 where
   pub answer : Answer

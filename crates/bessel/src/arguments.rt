@@ -6,7 +6,7 @@ ghost use Rattle.power_series.specs.Orders.{beyondSeries};
 ghost use Rattle.bessel.specs.Arguments.{normalisedOf, argumentsOf, lengthInside, areFinite, orderInside, signInside, sizeInside, isZero};
 use complex::lost::magnitude;
 use complex::number::Complex;
-use refusal::finite::is_finite;
+use machine::finite::is_finite;
 
 // An order and an argument without -0 in the order and the real part, and the modulus, worked out once.
 pub struct Arguments {

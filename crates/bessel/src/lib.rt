@@ -2,7 +2,6 @@
 // docs/SCOPE.md, Domain and refusals, has the rules; the steps behind the checks are the kernels' crates.
 pub mod answer;
 pub mod arguments;
-pub mod cells;
 pub mod classify;
 pub mod i;
 pub mod k;

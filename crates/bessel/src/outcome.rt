@@ -5,9 +5,9 @@ ghost use lib.ListN.{length};
 ghost use Rattle.bessel.specs.Outcome.{refusedOutcome, judgedOf};
 use crate::answer::Answer;
 use crate::answer::refused;
-use crate::cells::all_finite;
+use cells::all_finite::all_finite;
+use cells::fill::fill;
 use machine::constants::not_a_number;
-use power_series::fill::fill;
 use refusal::refusal::Refusal;
 
 pub fn refuse(refusal: Refusal, out: &mut [f64]) -> Answer

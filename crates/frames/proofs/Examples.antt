@@ -19,7 +19,7 @@ use Rattle.bessel.specs.declared.classify.Kind.the-variants.{K, I}
 use Rattle.bessel.specs.Arguments.{normalisedOf, argumentsOf, lengthInside, areFinite, orderInside, signInside, sizeInside, isZero}
 use Rattle.bessel.specs.Classify.{zeroRefused, seriesRefused, checksOf, firstOf, verdictOf, classifyOf}
 use Rattle.bessel.specs.Answer.{answeredOf, refusedOf}
-use Rattle.bessel.specs.Cells.{allFinite}
+use Rattle.cells.specs.AllFinite.{allFinite}
 use Rattle.bessel.specs.Outcome.{refusedOutcome, judgedIf, judgedOf}
 use Rattle.bessel.specs.I.{visitAnswer, visitedOutcome, seriesOutcome, iOutcomeOf, iOutcome}
 use Rattle.bessel.specs.K.{kOutcomeOf, kOutcome}

@@ -3,7 +3,7 @@
 ghost use mathlib.Core.Path.{_≡_};
 ghost use Rattle.gamma_ln.specs.LogGamma.{logGammaOf};
 use crate::gamma_ln::gamma_ln;
-use refusal::finite::is_finite;
+use machine::finite::is_finite;
 use refusal::refusal::Refusal;
 
 pub enum LogGamma {

@@ -3,7 +3,6 @@ pub mod SumBound
 pub mod VisitBound
 pub mod SumRun
 pub mod SumEnds
-pub mod FillFacts
 pub mod StepFacts
 pub mod WalkFacts
 pub mod PairFacts

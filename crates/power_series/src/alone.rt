@@ -15,7 +15,7 @@ use crate::sum::single_n_iteration;
 use crate::visit::Visit;
 use crate::visit::stepwise;
 use complex::number::Complex;
-use refusal::finite::is_finite;
+use machine::finite::is_finite;
 
 fn is_something(x: f64) -> bool
     ensures { λ r. ⌜ (r ≡ true → Something x) ⌝ }

@@ -1,7 +1,6 @@
 // The I series: the sum at one order, the downward visit over the orders, and the small arguments that need neither.
 // After src/amos/power_series.rs (ZSERI) and DLMF 10.25.2.
 pub mod alone;
-pub mod fill;
 pub mod ground;
 pub mod pair;
 pub mod series;

@@ -4,8 +4,8 @@ ghost use mathlib.Core.Path.{_≡_};
 ghost use Prim.Native.Nat.{_/_, _%_, _≤_, _<_};
 ghost use lib.ListN.{length};
 ghost use Rattle.power_series.specs.Tiny.{lowestOf, zerosOf, tinyOf};
-use crate::fill::fill;
 use crate::visit::Visit;
+use cells::fill::fill;
 
 fn lowest(order: f64) -> f64
     ensures { λ r. ⌜ r ≡ lowestOf order ⌝ }

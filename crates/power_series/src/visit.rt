@@ -4,11 +4,11 @@ ghost use mathlib.Core.Path.{_≡_};
 ghost use Prim.Native.Nat.{_*_, _/_, _%_, _≤_};
 ghost use lib.ListN.{length, drop};
 ghost use Rattle.power_series.specs.Visit.{walkOf, concludedOf, visitOf};
-use crate::fill::fill;
 use crate::ground::Ground;
 use crate::step::Descent;
 use crate::step::start;
 use crate::step::step;
+use cells::fill::fill;
 use machine::constants::not_a_number;
 
 // How many orders were set to zero, whether and where the visit stopped, the terms of its longest sum, and its steps of recurrence.

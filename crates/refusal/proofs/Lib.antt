@@ -1,3 +1,2 @@
--- What the numbers and the test of finiteness rest on.
-pub mod Difference
+-- What the numbers rest on.
 pub mod Distinct

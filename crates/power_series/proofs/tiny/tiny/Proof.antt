@@ -6,7 +6,7 @@ use native.Mathlib.Omega.{arith}
 use lib.Ieee.{Float, binary64, ofBits}
 use lib.ListN.{length, set}
 use Rattle.power_series.specs.Tiny.{tinyOf}
-use Rattle.power_series.proofs.FillFacts.{replicate-first}
+use Rattle.cells.proofs.FillFacts.{replicate-first}
 use borrow.Author.Needs.{needs}
 use Rattle.power_series.proofs.tiny.tiny.Statement.{statement}
 use Rattle.power_series.proofs.tiny.tiny.Tie as tie

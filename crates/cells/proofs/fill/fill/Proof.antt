@@ -1,12 +1,12 @@
--- `power_series::fill::fill` meets its contract: the cells in front of i hold the value. Assumes nothing.
+-- `cells::fill::fill` meets its contract: the cells in front of i hold the value. Assumes nothing.
 use mathlib.Core.Path.{_≡_, ap, _∙_}
 use Prim.Native.Nat.{ℕ, _-_, _≤_}
 use native.Mathlib.Omega.{arith}
 use lib.ListN.{length, replicate}
 use Rattle.laws.proofs.Seam.{Seam, seam-start, seam-store, seam-as, seam-full}
-use Rattle.power_series.proofs.FillFacts.{replicate-next}
-use Rattle.power_series.proofs.fill.fill.Statement.{statement}
-use Rattle.power_series.proofs.fill.fill.Tie as tie
+use Rattle.cells.proofs.FillFacts.{replicate-next}
+use Rattle.cells.proofs.fill.fill.Statement.{statement}
+use Rattle.cells.proofs.fill.fill.Tie as tie
 
 abbrev Inv-loop : tie.InvT-loop
 Inv-loop out₀ value i₀ out i = (i ≤ length out₀) × Seam out₀ (replicate i value) i out

@@ -8,7 +8,7 @@ use lib.Ieee.{Float}
 use lib.Ieee.Scale.{finite}
 use lib.ListN.{length, drop, getD, drop-of-length-le}
 use lib.Seq.{drop-cons}
-use Rattle.bessel.specs.Cells.{allFinite}
+use Rattle.cells.specs.AllFinite.{allFinite}
 
 here : (l : List Float) (i : ℕ) (d : Float) → i < length l → allFinite (drop i l) ≡ (finite (getD l i d) && allFinite (drop (i + 1) l))
 unfolding allFinite

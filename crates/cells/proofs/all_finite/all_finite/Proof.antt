@@ -1,4 +1,4 @@
--- `bessel::cells::all_finite` meets its contract: at each index passed, what was found and what is left of the cells decide. Assumes nothing.
+-- `cells::all_finite::all_finite` meets its contract: at each index passed, what was found and what is left of the cells decide. Assumes nothing.
 use mathlib.Core.Path.{_≡_, refl, sym, _∙_}
 use mathlib.Core.Logic.{⊎-elim}
 use mathlib.Core.Bool.{_&&_}
@@ -6,11 +6,11 @@ use Prim.Native.Nat.{_-_}
 use native.Mathlib.Omega.{arith}
 use borrow.Author.Tests.{not-true, not-false}
 use lib.ListN.{length, drop}
-use Rattle.bessel.specs.Cells.{allFinite}
-use Rattle.bessel.proofs.CellFacts.{all-kept, all-lost, all-end}
+use Rattle.cells.specs.AllFinite.{allFinite}
+use Rattle.cells.proofs.AllFiniteFacts.{all-kept, all-lost, all-end}
 use borrow.Author.Needs.{needs}
-use Rattle.bessel.proofs.cells.all_finite.Statement.{statement}
-use Rattle.bessel.proofs.cells.all_finite.Tie as tie
+use Rattle.cells.proofs.all_finite.all_finite.Statement.{statement}
+use Rattle.cells.proofs.all_finite.all_finite.Tie as tie
 
 abbrev Inv-loop : tie.InvT-loop
 Inv-loop cells from all₀ i₀ all i = allFinite (drop from cells) ≡ (all && allFinite (drop i cells))

@@ -1,0 +1,3 @@
+-- What filling a slice and looking through it rest on.
+pub mod AllFiniteFacts
+pub mod FillFacts

@@ -1,0 +1,3 @@
+-- What follows of any list of checks, and of the limits.
+pub mod FirstFacts
+pub mod LimitFacts

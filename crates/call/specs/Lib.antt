@@ -1,0 +1,4 @@
+-- The definitions, by topic.
+pub mod Answer
+pub mod Checks
+pub mod Limits

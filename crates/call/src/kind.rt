@@ -1,0 +1,5 @@
+// What is asked for: K or I.
+pub enum Kind {
+    K,
+    I,
+}

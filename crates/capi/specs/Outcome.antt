@@ -19,5 +19,5 @@ abbrev pub isScaled : ℕ → Bool
 isScaled s = not (eqb s 0)
 
 -- C's record of five fields, whatever else the library's own comes to hold
-unfoldable pub answerOf : calls.Answer → Answer
+abbrev pub answerOf : calls.Answer → Answer
 answerOf a = record { number = a .number; zeros = a .zeros; «longest_sum» = a .«longest_sum»; rungs = a .rungs; backward = a .backward }

@@ -21,7 +21,9 @@ def main():
     bad += [f"{crate} has no row" for crate in lists if crate not in may]
     bad += [f"{crate} has a row, and is no crate" for crate in may if crate not in lists]
     for crate, others in uses().items():
-        known = list(may.get(crate, []))
+        if crate not in may:
+            continue
+        known = list(may[crate])
         for other in known:
             known += [more for more in may.get(other, []) if more not in known]
         bad += [f"{crate} may not know {other}, and uses it by {how}" for other, how in others.items() if other not in known]

@@ -112,7 +112,7 @@ k-ready v re im a length e h =
     own : let b = argumentsOf v re im in verdictOf (kChecks b length) ≡ Admitted → (lengthInside length ≡ true) × T (nonnegative (b .order)) × T (le (b .order) largestOrder) × (b .modulus ≡ modulusOf (b .z))
     own h =
         let b = argumentsOf v re im in
-        let p = k-passed b length (admitted-none (kChecks b length) h) .0 in
+        let p = k-passed b length (admitted-none (kChecks b length) h) in
         let o = order-limits v re im length p in
         (p .lent, o .0, o .1, modulus-own v re im)
 

@@ -1,18 +1,17 @@
 -- What a call has that passed its checks. Assumes nothing.
 use mathlib.Core.Path.{_≡_, refl, sym}
 use mathlib.Core.Bool.{Bool, true, false, not, _&&_}
-use mathlib.Core.List.{List, [], _∷_, _++_}
+use mathlib.Core.List.{_++_}
 use Prim.Native.Nat.{ℕ, _/_}
 use lib.Ieee.{Float}
-use Rattle.refusal.specs.declared.refusal.Refusal.the-variants.{Zero, Series}
 use Rattle.call.specs.declared.checks.Verdict.the-variants.{Admitted}
-use Rattle.call.specs.Limits.{lengthInside, areFinite, isZero}
-use Rattle.call.specs.Checks.{Check, check, verdictOf, noneApplies, lengthChecks, finiteChecks, limitChecks}
+use Rattle.call.specs.Limits.{lengthInside, areFinite}
+use Rattle.call.specs.Checks.{verdictOf, noneApplies, lengthChecks, finiteChecks, limitChecks}
 use Rattle.call.proofs.FirstFacts.{none-left, none-right, admitted-none}
 use Rattle.call.proofs.LimitFacts.{Lent, lent, Inside, length-passed, finite-passed, limits-passed}
 use Rattle.power_series.specs.Orders.{beyondSeries}
 use Rattle.bessel.specs.declared.arguments.Arguments.{Arguments}
-use Rattle.bessel.specs.Checks.{argumentChecks, kChecks, seriesChecks}
+use Rattle.bessel.specs.Checks.{argumentChecks, kOwnChecks, kChecks, seriesOwnChecks, seriesChecks}
 
 pub record Passed (a : Arguments) (length : ℕ) : Type 0 where
   pub lent : lengthInside length ≡ true
@@ -37,19 +36,16 @@ module _ (a : Arguments) (length : ℕ) where
   pub arguments-lent : verdictOf (argumentChecks a length) ≡ Admitted → Lent length
   arguments-lent h = lent length (arguments-passed (admitted-none (argumentChecks a length) h) .lent)
 
+  pub k-passed : noneApplies (kChecks a length) ≡ true → Passed a length
+  unfolding kChecks
+  k-passed p = arguments-passed (none-left (argumentChecks a length) (kOwnChecks a) p)
+
   last-passed : (b : Bool) → (not b && true) ≡ true → b ≡ false
   last-passed true e = sym e
   last-passed false e = refl
 
-  pub k-passed : noneApplies (kChecks a length) ≡ true → Passed a length × (isZero (a .z .re) (a .z .im) ≡ false)
-  unfolding kChecks noneApplies
-  k-passed p =
-      let c = check (isZero (a .z .re) (a .z .im)) Zero ∷ [] in
-      (arguments-passed (none-left (argumentChecks a length) c p), last-passed (isZero (a .z .re) (a .z .im)) (none-right (argumentChecks a length) c p))
-
   pub series-passed : noneApplies (seriesChecks a length) ≡ true → Passed a length × (beyondSeries (a .order) (length / 2) (a .modulus) ≡ false)
-  unfolding seriesChecks noneApplies
+  unfolding seriesChecks seriesOwnChecks noneApplies
   series-passed p =
-      let b = beyondSeries (a .order) (length / 2) (a .modulus) in
-      let c = check b Series ∷ [] in
-      (arguments-passed (none-left (argumentChecks a length) c p), last-passed b (none-right (argumentChecks a length) c p))
+      let own = seriesOwnChecks a length in
+      (arguments-passed (none-left (argumentChecks a length) own p), last-passed (beyondSeries (a .order) (length / 2) (a .modulus)) (none-right (argumentChecks a length) own p))

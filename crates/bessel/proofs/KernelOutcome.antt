@@ -30,7 +30,7 @@ use Rattle.right_half_plane.proofs.Answers.{Answers, kernel-answers, kernel-ter
 use Rattle.right_half_plane.proofs.Delivered.{Delivers, kernel-delivers}
 use Rattle.bessel.specs.declared.arguments.Arguments.{Arguments}
 use Rattle.bessel.specs.Arguments.{argumentsOf}
-use Rattle.bessel.specs.Checks.{argumentChecks, kChecks}
+use Rattle.bessel.specs.Checks.{argumentChecks, kOwnChecks, kChecks}
 use Rattle.bessel.specs.Outcome.{Outcome, Steps, Delivered, Stopped, refusedOutcome, judgedOf, concludedOf, callOutcome}
 use Rattle.bessel.specs.K.{kernelBy, countsAnswer, kernelSteps, kSteps, kOutcome, refuses, kernelChecks, allKChecks}
 use Rattle.bessel.proofs.CheckFacts.{k-passed}
@@ -64,7 +64,7 @@ later-by length o cells (by-climb e) = rw e
 
 -- the numbers that K can give besides 0, in the order of the checks
 pub listed : (scaled : Bool) (a : Arguments) (length : ℕ) → numbersOf (allKChecks scaled a length) ≡ 1 ∷ 2 ∷ 3 ∷ 3 ∷ 3 ∷ 4 ∷ 6 ∷ 7 ∷ 8 ∷ []
-unfolding numbersOf allKChecks kChecks argumentChecks lengthChecks finiteChecks limitChecks kernelChecks
+unfolding numbersOf allKChecks kChecks kOwnChecks argumentChecks lengthChecks finiteChecks limitChecks kernelChecks
 listed scaled a length = refl
 
 -- an answer: the checks are passed, and the record and the cells are the kernel's
@@ -160,7 +160,7 @@ module _ (scaled : Bool) (v re im : Float) (length : ℕ) where
       elim whole [
         | inl r ↦ ap length-of (r .cells) ∙ length-replicate length notANumber
         | inr w ↦
-            let l = lent length (k-passed (argumentsOf v re im) length (w .passed) .0 .lent) in
+            let l = lent length (k-passed (argumentsOf v re im) length (w .passed) .lent) in
             ap length-of (w .cells) ∙ delivered w .1 ∙ omega arith
       ]
 
@@ -170,7 +170,7 @@ module _ (scaled : Bool) (v re im : Float) (length : ℕ) where
   answered-counts h =
       let a = argumentsOf v re im in
       let w = answered-whole h in
-      let l = lent length (k-passed a length (w .passed) .0 .lent) in
+      let l = lent length (k-passed a length (w .passed) .lent) in
       let d = delivered w in
       let k = subst (Answers (nearestOrder (a .order) + length / 2 - 2) (seedOf (groundOf (a .order) (a .z) (a .modulus) (length / 2)) scaled .terms)) (w .kernel) (kernel-answers scaled (a .order) (a .z) (a .modulus) (length / 2) (omega arith)) in
       record {

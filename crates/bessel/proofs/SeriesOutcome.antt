@@ -20,7 +20,7 @@ use Rattle.power_series.specs.Visit.{Visited}
 use Rattle.power_series.specs.Series.{powerSeriesOf}
 use Rattle.bessel.specs.declared.arguments.Arguments.{Arguments}
 use Rattle.bessel.specs.Arguments.{argumentsOf}
-use Rattle.bessel.specs.Checks.{argumentChecks, seriesChecks}
+use Rattle.bessel.specs.Checks.{argumentChecks, seriesOwnChecks, seriesChecks}
 use Rattle.bessel.specs.Outcome.{Outcome, Steps, Delivered, judgedOf, concludedOf, callOutcome}
 use Rattle.bessel.specs.Series.{visitedBy, visitAnswer, visitSteps, seriesOutcome, visitChecks, allSeriesChecks}
 use Rattle.bessel.proofs.CheckFacts.{series-passed}
@@ -41,7 +41,7 @@ later-number length w = judged-number (allFinite (finishedOf w)) length (visitAn
 
 -- the numbers that the power series can give besides 0, in the order of the checks
 pub listed : (scaled turned : Bool) (a : Arguments) (length : ℕ) → numbersOf (allSeriesChecks scaled turned a length) ≡ 1 ∷ 2 ∷ 3 ∷ 3 ∷ 3 ∷ 5 ∷ 8 ∷ []
-unfolding numbersOf allSeriesChecks seriesChecks argumentChecks lengthChecks finiteChecks limitChecks visitChecks
+unfolding numbersOf allSeriesChecks seriesChecks seriesOwnChecks argumentChecks lengthChecks finiteChecks limitChecks visitChecks
 listed scaled turned a length = refl
 
 -- an answer: the checks are passed, and the record and the cells are the visit's

@@ -12,16 +12,20 @@ unfoldable pub argumentChecks : Arguments → ℕ → List Check
 argumentChecks a length =
     lengthChecks length ++ (finiteChecks (a .order) (a .z .re) (a .z .im) ++ limitChecks (a .order) (a .z .re) (a .z .im))
 
--- K: then 4
-unfoldable pub kChecks : Arguments → ℕ → List Check
-kChecks a length =
-    argumentChecks a length
-    ++ (check (isZero (a .z .re) (a .z .im)) Zero
-    ∷ [])
+-- K's own, behind them: 4
+unfoldable pub kOwnChecks : Arguments → List Check
+kOwnChecks a =
+    check (isZero (a .z .re) (a .z .im)) Zero
+    ∷ []
 
--- the power series: then 5
+unfoldable pub kChecks : Arguments → ℕ → List Check
+kChecks a length = argumentChecks a length ++ kOwnChecks a
+
+-- the power series' own, behind them: 5
+unfoldable pub seriesOwnChecks : Arguments → ℕ → List Check
+seriesOwnChecks a length =
+    check (beyondSeries (a .order) (length / 2) (a .modulus)) Series
+    ∷ []
+
 unfoldable pub seriesChecks : Arguments → ℕ → List Check
-seriesChecks a length =
-    argumentChecks a length
-    ++ (check (beyondSeries (a .order) (length / 2) (a .modulus)) Series
-    ∷ [])
+seriesChecks a length = argumentChecks a length ++ seriesOwnChecks a length

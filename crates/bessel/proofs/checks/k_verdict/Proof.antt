@@ -1,7 +1,7 @@
 -- `bessel::checks::k_verdict` meets its contract: the shared checks, and K's own behind them. Assumes nothing.
 use Rattle.call.specs.Checks.{verdictFrom, verdictOf}
 use Rattle.call.proofs.FirstFacts.{verdict-append}
-use Rattle.bessel.specs.Checks.{kChecks}
+use Rattle.bessel.specs.Checks.{kOwnChecks, kChecks}
 use borrow.Author.Needs.{needs}
 use Rattle.bessel.proofs.checks.k_verdict.Statement.{statement}
 use Rattle.bessel.proofs.checks.k_verdict.Tie as tie
@@ -16,7 +16,7 @@ refused-if-requires : tie.Need-refused-if-requires
 refused-if-requires c κs = search needs
 
 returns : tie.Need-returns
-unfolding verdictOf verdictFrom kChecks
+unfolding verdictOf verdictFrom kChecks kOwnChecks
 returns c = rw verdict-append (cc)
 
 pub k-verdict-spec : {M : Type 1} → statement M

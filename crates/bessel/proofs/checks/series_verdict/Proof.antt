@@ -3,7 +3,7 @@ use mathlib.Core.Path.{sym, _∙_}
 use native.Mathlib.Omega.{arith}
 use Rattle.call.specs.Checks.{verdictFrom, verdictOf}
 use Rattle.call.proofs.FirstFacts.{verdict-append, stays}
-use Rattle.bessel.specs.Checks.{seriesChecks}
+use Rattle.bessel.specs.Checks.{seriesOwnChecks, seriesChecks}
 use Rattle.bessel.proofs.CheckFacts.{arguments-lent}
 use borrow.Author.Needs.{needs}
 use Rattle.bessel.proofs.checks.series_verdict.Statement.{statement}
@@ -28,7 +28,7 @@ enum-told-2 : tie.Need-enum-told-2
 enum-told-2 c = search needs
 
 returns : tie.Need-returns
-unfolding verdictOf verdictFrom seriesChecks
+unfolding verdictOf verdictFrom seriesChecks seriesOwnChecks
 returns c = rw verdict-append (cc)
 
 returns-2 : tie.Need-returns-2

@@ -13,12 +13,12 @@ use Rattle.right_half_plane.specs.declared.kernel.Outcome as kernels
 use Rattle.right_half_plane.specs.declared.kernel.Outcome.the-variants as ended
 use Rattle.right_half_plane.specs.Kernel.{Kernel, kernelOf, afterIf, afterwards}
 use Rattle.right_half_plane.proofs.Delivered.{Delivers, kernel-delivers}
-use Rattle.bessel.specs.declared.answer.Answer.{Answer}
-use Rattle.bessel.specs.Arguments.{lengthInside}
-use Rattle.bessel.specs.Answer.{signedOf, answeredOf}
-use Rattle.bessel.specs.Outcome.{Outcome, judgedOf}
-use Rattle.bessel.specs.K.{countsAnswer, concludedOf, Fewer}
-use Rattle.bessel.proofs.LengthFacts.{lent}
+use Rattle.call.specs.declared.answer.Answer.{Answer}
+use Rattle.call.specs.Limits.{lengthInside}
+use Rattle.call.specs.Answer.{signedOf, answeredOf}
+use Rattle.call.proofs.LimitFacts.{lent}
+use Rattle.bessel.specs.Outcome.{Outcome, judgedOf, concludedOf}
+use Rattle.bessel.specs.K.{countsAnswer, kernelSteps, Fewer}
 
 -- the zeros of an answer into a buffer that is let in
 pub zeros-few : (length : ℕ) (scaled : Bool) (v : Float) (z : Complex) (m : Float) (o : kernels.Outcome) → lengthInside length ≡ true → o ≡ kernelOf scaled v z m (length / 2) .outcome → Fewer o
@@ -40,14 +40,16 @@ unfolding countsAnswer
 judged-counts n c cells zeros answer d e = ap (λ (x : Answer). judgedOf n x 0 cells) (e ∙ ap (λ (k : ℤ). answeredOf k (c .«longest_sum») (c .rungs) (c .backward)) d)
 
 -- what a refusal left in the cells has no part in the outcome
-pub concluded-kernel : (length n : ℕ) (k : Kernel) (o : kernels.Outcome) (cells held : List Float) → n ≡ length → o ≡ k .outcome → cells ≡ afterwards k held → concludedOf n o cells ≡ concludedOf length (k .outcome) (k .cells)
-unfolding concludedOf afterwards afterIf
+pub concluded-kernel :
+    (length n : ℕ) (k : Kernel) (o : kernels.Outcome) (cells held : List Float) → n ≡ length → o ≡ k .outcome → cells ≡ afterwards k held →
+    concludedOf n (kernelSteps o cells) ≡ concludedOf length (kernelSteps (k .outcome) (k .cells))
+unfolding kernelSteps afterwards afterIf
 concluded-kernel length n k o cells held a b c =
-    ap (λ (m : ℕ). concludedOf m o cells) a
-    ∙ ap (λ (p : kernels.Outcome). concludedOf length p cells) b
-    ∙ ap (λ (l : List Float). concludedOf length (k .outcome) l) c
-    ∙ go (k .outcome) (k .cells)
+    ap (λ (m : ℕ). concludedOf m (kernelSteps o cells)) a
+    ∙ ap (λ (p : kernels.Outcome). concludedOf length (kernelSteps p cells)) b
+    ∙ ap (λ (l : List Float). concludedOf length (kernelSteps (k .outcome) l)) c
+    ∙ ap (concludedOf length) (go (k .outcome) (k .cells))
   where
-    go : (p : kernels.Outcome) (l : List Float) → concludedOf length p (afterIf p l held) ≡ concludedOf length p l
+    go : (p : kernels.Outcome) (l : List Float) → kernelSteps p (afterIf p l held) ≡ kernelSteps p l
     go (ended.Answered counts) l = refl
     go (ended.Refused r) l = refl

@@ -1,13 +1,11 @@
 -- What the functions rest on, and what is shown of the outcomes besides.
-pub mod LengthFacts
-pub mod ClassifyFacts
-pub mod SeriesFacts
-pub mod KernelFacts
-pub mod Numbers
-pub mod OutcomeFacts
-pub mod SeriesOutcome
+pub mod CallFacts
+pub mod CheckFacts
 pub mod ArgumentFacts
+pub mod SeriesFacts
+pub mod SeriesOutcome
 pub mod SumsEnd
+pub mod KernelFacts
 pub mod KernelOutcome
 pub mod ZeroSigns
 pub mod Rows

@@ -15,12 +15,12 @@ use Rattle.power_series.specs.Visit.{Visited, visitedOf, visitOf}
 use Rattle.power_series.specs.Tiny.{zerosOf, tinyOf}
 use Rattle.power_series.specs.Series.{powerSeriesIf, powerSeriesOf}
 use Rattle.power_series.proofs.VisitFacts.{orders-counted, cells-length}
-use Rattle.bessel.specs.declared.answer.Answer.{Answer}
-use Rattle.bessel.specs.Arguments.{lengthInside}
-use Rattle.bessel.specs.Answer.{signedOf, answeredOf}
-use Rattle.bessel.specs.Outcome.{judgedOf}
-use Rattle.bessel.specs.I.{visitAnswer, visitedOutcome}
-use Rattle.bessel.proofs.LengthFacts.{lent}
+use Rattle.call.specs.declared.answer.Answer.{Answer}
+use Rattle.call.specs.Limits.{lengthInside}
+use Rattle.call.specs.Answer.{signedOf, answeredOf}
+use Rattle.call.proofs.LimitFacts.{lent}
+use Rattle.bessel.specs.Outcome.{judgedOf, concludedOf}
+use Rattle.bessel.specs.Series.{visitAnswer, visitSteps}
 
 -- as many entries as orders, no more of them zeros, and the place of the stop among them
 pub record Fitting (n : ℕ) (w : Visited) : Type 0 where
@@ -67,8 +67,8 @@ counts-small length scaled turned v z m r e q =
 pub judged-visit :
     (length n : ℕ) (w : Visited) (visit : Visit) (cells : List Float) (zeros : ℤ) (answer : Answer) →
     n ≡ length → visit ≡ w .visit → cells ≡ w .cells → zeros ≡ signedOf (visit .stopped) (visit .zeros) → answer ≡ answeredOf zeros (visit .«longest_sum») (visit .rungs) 0 →
-    judgedOf n answer (visit .place * 2) cells ≡ visitedOutcome length w
-unfolding visitAnswer visitedOutcome
+    judgedOf n answer (visit .place * 2) cells ≡ concludedOf length (visitSteps w)
+unfolding visitAnswer visitSteps concludedOf
 judged-visit length n w visit cells zeros answer a b c d e =
     ap (λ (k : ℕ). judgedOf k answer (visit .place * 2) cells) a
     ∙ ap (λ (l : List Float). judgedOf length answer (visit .place * 2) l) c

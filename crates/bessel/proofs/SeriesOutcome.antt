@@ -1,133 +1,102 @@
--- What a call of I comes to, on every input: one outcome, each number exactly when, and what the cells then hold. Assumes nothing.
+-- What a call by the power series comes to, on every input and for either sign: one outcome, each number exactly when, and what the cells then hold. Assumes nothing.
 use mathlib.Core.Path.{_≡_, refl, sym, ap, _∙_, subst}
 use mathlib.Core.Logic.{_⊎_, inl, inr}
-use mathlib.Core.Bool.{Bool, true, false, not, cond, _&&_}
-use mathlib.Core.List.{List, _∷_, _++_}
+use mathlib.Core.Bool.{Bool, true, false, not, cond}
+use mathlib.Core.List.{List, [], _∷_, _++_}
 use Prim.Native.Nat.{ℕ, _*_, _/_, _<_}
 use native.Mathlib.Omega.{arith}
-use lib.Dec.{eqb}
-use lib.IntN.{pos}
-use lib.ListN.{drop, replicate, length-replicate}
+use lib.ListN.{drop, length-replicate}
 use lib.ListN.{length as length-of}
-use lib.Ieee.{Float, binary64, ofBits}
+use lib.Ieee.{Float}
 use Rattle.machine.specs.Constants.{notANumber}
-use Rattle.refusal.specs.Number.{numberOf}
-use Rattle.refusal.specs.declared.refusal.Refusal.{Refusal}
-use Rattle.refusal.specs.declared.refusal.Refusal.the-variants.{Overflow}
-use Rattle.power_series.specs.Visit.{Visited}
-use Rattle.power_series.specs.Orders.{beyondSeries}
-use Rattle.power_series.specs.Series.{powerSeriesOf}
-use Rattle.bessel.specs.declared.answer.Answer.{Answer}
-use Rattle.bessel.specs.declared.arguments.Arguments.{Arguments}
-use Rattle.bessel.specs.declared.classify.Kind.the-variants.{I}
-use Rattle.bessel.specs.declared.classify.Verdict.{Verdict}
-use Rattle.bessel.specs.declared.classify.Verdict.the-variants.{Admitted, Refused}
-use Rattle.bessel.specs.Arguments.{argumentsOf, lengthInside, areFinite}
-use Rattle.bessel.specs.Answer.{answeredOf, refusedOf}
 use Rattle.cells.specs.AllFinite.{allFinite}
-use Rattle.bessel.specs.Classify.{zeroRefused, seriesRefused, classifyOf}
-use Rattle.bessel.specs.Outcome.{Outcome, refusedOutcome, judgedIf, judgedOf}
-use Rattle.bessel.specs.I.{visitAnswer, visitedOutcome, seriesOutcome, iOutcomeOf, iOutcome}
 use Rattle.refusal.proofs.Distinct.{never-zero}
-use Rattle.bessel.proofs.LengthFacts.{lent}
-use Rattle.bessel.proofs.ClassifyFacts.{Passed, admitted}
+use Rattle.call.specs.declared.answer.Answer.{Answer}
+use Rattle.call.specs.Answer.{answeredOf}
+use Rattle.call.specs.Checks.{Check, refusedIf, verdictFrom, verdictOf, numberGiven, noneApplies, numbersOf, lengthChecks, finiteChecks, limitChecks}
+use Rattle.call.proofs.FirstFacts.{Given}
+use Rattle.call.proofs.LimitFacts.{lent}
+use Rattle.power_series.specs.Visit.{Visited}
+use Rattle.power_series.specs.Series.{powerSeriesOf}
+use Rattle.bessel.specs.declared.arguments.Arguments.{Arguments}
+use Rattle.bessel.specs.Arguments.{argumentsOf}
+use Rattle.bessel.specs.Checks.{argumentChecks, seriesChecks}
+use Rattle.bessel.specs.Outcome.{Outcome, Steps, Delivered, judgedOf, concludedOf, callOutcome}
+use Rattle.bessel.specs.Series.{visitedBy, visitAnswer, visitSteps, seriesOutcome, visitChecks, allSeriesChecks}
+use Rattle.bessel.proofs.CheckFacts.{series-passed}
 use Rattle.bessel.proofs.SeriesFacts.{series-fits}
-use Rattle.bessel.proofs.OutcomeFacts.{no-other, judged-number, later, is-none, is-eight, RefusedWhole, refused-facts}
-use Rattle.bessel.proofs.Numbers.{Exactly, domainInside, passes, givenOf, Later, numbered}
-
--- ---- the contract of `i` leaves no second outcome
-pub only-outcome : (scaled : Bool) (v re im : Float) (length : ℕ) (p q : Outcome) → let o = iOutcome scaled v re im length in (p .answer ≡ o .answer) × (p .cells ≡ o .cells) → (q .answer ≡ o .answer) × (q .cells ≡ o .cells) → p ≡ q
-only-outcome scaled v re im length p q e f = no-other (iOutcome scaled v re im length) p q e f
-
--- ---- the visit of an admitted call, and its finished cells
-abbrev pub visitedBy : Bool → ℕ → Arguments → Visited
-visitedBy scaled length a = powerSeriesOf scaled false (a .order) (a .z) (a .modulus) (length / 2)
-
-abbrev pub finishedBy : Bool → ℕ → Arguments → List Float
-finishedBy scaled length a = let w = visitedBy scaled length a in drop (w .visit .place * 2) (w .cells)
-
-abbrev laterOf : Bool → ℕ → Arguments → ℕ
-laterOf scaled length a = cond (allFinite (finishedBy scaled length a)) 0 8
+use Rattle.bessel.proofs.CallFacts.{no-other, judged-number, RefusedWhole, refused-facts, Ended, refused, answered, ends, numbered}
 
 answer-number : (w : Visited) → visitAnswer w .number ≡ 0
 unfolding visitAnswer answeredOf
 answer-number w = refl
 
-number-by : (scaled : Bool) (length : ℕ) (verdict : Verdict) → iOutcomeOf scaled length verdict .answer .number ≡ givenOf (laterOf scaled length) verdict
-unfolding iOutcomeOf seriesOutcome visitedOutcome judgedOf refusedOutcome refusedOf
-number-by scaled length (Admitted a) = let w = visitedBy scaled length a in judged-number (allFinite (finishedBy scaled length a)) length (visitAnswer w) (w .cells) (answer-number w)
-number-by scaled length (Refused r) = refl
+-- the cells of a visit that are finished
+abbrev pub finishedOf : Visited → List Float
+finishedOf w = drop (w .visit .place * 2) (w .cells)
 
--- ---- the number of a call, exactly when
-pub record Numbers (scaled : Bool) (a : Arguments) (length m : ℕ) : Type 0 where
-  pub one : Exactly (m ≡ 1) (not (lengthInside length))
-  pub two : Exactly (m ≡ 2) (lengthInside length && not (areFinite a))
-  pub three : Exactly (m ≡ 3) (lengthInside length && (areFinite a && not (domainInside a)))
-  pub five : Exactly (m ≡ 5) (lengthInside length && (areFinite a && (domainInside a && beyondSeries (a .order) (length / 2) (a .modulus))))
-  pub eight : Exactly (m ≡ 8) (passes I a length && not (allFinite (finishedBy scaled length a)))
-  pub none : Exactly (m ≡ 0) (passes I a length && allFinite (finishedBy scaled length a))
-  pub nine : m ≡ 9 → ⊥
+later-number : (length : ℕ) (w : Visited) → numberGiven (verdictOf (visitChecks w)) ≡ concludedOf length (visitSteps w) .answer .number
+unfolding verdictOf verdictFrom refusedIf visitChecks visitSteps concludedOf judgedOf
+later-number length w = judged-number (allFinite (finishedOf w)) length (visitAnswer w) (w .cells) (answer-number w)
 
-pub numbers : (scaled : Bool) (v re im : Float) (length : ℕ) → Numbers scaled (argumentsOf v re im) length (iOutcome scaled v re im length .answer .number)
-unfolding zeroRefused seriesRefused iOutcome
-numbers scaled v re im length =
-    let a = argumentsOf v re im in
-    let m = iOutcome scaled v re im length .answer .number in
-    let g = allFinite (finishedBy scaled length a) in
-    let n = numbered I v re im length (laterOf scaled length) m (number-by scaled length (classifyOf I v re im length)) (later g) in
-    record {
-      one = n .one;
-      two = n .two;
-      three = n .three;
-      five = n .five;
-      eight = subst (λ (b : Bool). Exactly (m ≡ 8) (passes I a length && b)) (is-eight g) (n .eight);
-      none = subst (λ (b : Bool). Exactly (m ≡ 0) (passes I a length && b)) (is-none g) (n .none);
-      nine = n .nine;
-    }
-
--- ---- how a call ends: refused, and then every cell is the fixed not-a-number and every count is zero; or answered by the visit
-pub data Ended (scaled : Bool) (length : ℕ) (verdict : Verdict) : Type 0 where
-  refused : (r : Refusal) → iOutcomeOf scaled length verdict ≡ refusedOutcome r length → Ended scaled length verdict
-  answered : (a : Arguments) → verdict ≡ Admitted a → allFinite (finishedBy scaled length a) ≡ true → iOutcomeOf scaled length verdict ≡ record { answer = visitAnswer (visitedBy scaled length a); cells = visitedBy scaled length a .cells } → Ended scaled length verdict
-
-judged-ends : (scaled : Bool) (length : ℕ) (a : Arguments) (b : Bool) → allFinite (finishedBy scaled length a) ≡ b → Ended scaled length (Admitted a)
-unfolding iOutcomeOf seriesOutcome visitedOutcome judgedOf judgedIf
-judged-ends scaled length a true e = answered a refl e (rw e)
-judged-ends scaled length a false e = refused Overflow (rw e)
-
-pub ends : (scaled : Bool) (length : ℕ) (verdict : Verdict) → Ended scaled length verdict
-unfolding iOutcomeOf
-ends scaled length (Admitted a) = judged-ends scaled length a (allFinite (finishedBy scaled length a)) refl
-ends scaled length (Refused r) = refused r refl
+-- the numbers that the power series can give besides 0, in the order of the checks
+pub listed : (scaled turned : Bool) (a : Arguments) (length : ℕ) → numbersOf (allSeriesChecks scaled turned a length) ≡ 1 ∷ 2 ∷ 3 ∷ 3 ∷ 3 ∷ 5 ∷ 8 ∷ []
+unfolding numbersOf allSeriesChecks seriesChecks argumentChecks lengthChecks finiteChecks limitChecks visitChecks
+listed scaled turned a length = refl
 
 -- an answer: the checks are passed, and the record and the cells are the visit's
-pub record AnsweredWhole (scaled : Bool) (a : Arguments) (length : ℕ) (o : Outcome) : Type 0 where
-  pub passed : Passed I a length
-  pub finite : allFinite (finishedBy scaled length a) ≡ true
-  pub answer : o .answer ≡ visitAnswer (visitedBy scaled length a)
-  pub cells : o .cells ≡ visitedBy scaled length a .cells
+pub record AnsweredWhole (scaled turned : Bool) (a : Arguments) (length : ℕ) (o : Outcome) : Type 0 where
+  pub passed : noneApplies (seriesChecks a length) ≡ true
+  pub finite : allFinite (finishedOf (visitedBy scaled turned a length)) ≡ true
+  pub answer : o .answer ≡ visitAnswer (visitedBy scaled turned a length)
+  pub cells : o .cells ≡ visitedBy scaled turned a length .cells
 
-module _ (scaled : Bool) (v re im : Float) (length : ℕ) where
-  whole-by : Ended scaled length (classifyOf I v re im length) → RefusedWhole length (iOutcome scaled v re im length) ⊎ AnsweredWhole scaled (argumentsOf v re im) length (iOutcome scaled v re im length)
-  unfolding iOutcome
+module _ (scaled turned : Bool) (v re im : Float) (length : ℕ) where
+  -- the contract leaves no second outcome
+  pub only-outcome :
+      (p q : Outcome) → let o = seriesOutcome scaled turned v re im length in (p .answer ≡ o .answer) × (p .cells ≡ o .cells) → (q .answer ≡ o .answer) × (q .cells ≡ o .cells) → p ≡ q
+  only-outcome p q e f = no-other (seriesOutcome scaled turned v re im length) p q e f
+
+  -- the number, exactly when, and no other than the list's
+  pub numbers : Given (allSeriesChecks scaled turned (argumentsOf v re im) length) (seriesOutcome scaled turned v re im length .answer .number)
+  unfolding allSeriesChecks seriesOutcome
+  numbers =
+      let a = argumentsOf v re im in
+      let w = visitedBy scaled turned a length in
+      numbered (seriesChecks a length) (visitChecks w) length (visitSteps w) (later-number length w)
+
+  -- ---- how a call ends
+  delivered :
+      (w : Visited) (answer : Answer) (from : ℕ) (cells : List Float) → visitSteps w ≡ Delivered answer from cells →
+      (answer ≡ visitAnswer w) × (cells ≡ w .cells) × (drop from cells ≡ finishedOf w)
+  unfolding visitSteps
+  delivered w answer from cells e = (cc, cc, cc)
+
+  whole-by : let a = argumentsOf v re im in Ended (seriesChecks a length) length (visitSteps (visitedBy scaled turned a length)) →
+      RefusedWhole length (seriesOutcome scaled turned v re im length) ⊎ AnsweredWhole scaled turned (argumentsOf v re im) length (seriesOutcome scaled turned v re im length)
+  unfolding seriesOutcome
   whole-by (refused r e) = inl (subst (RefusedWhole length) (sym e) (refused-facts length r))
-  whole-by (answered a p f e) =
-      let q = admitted I v re im length a p in
-      inr (subst (λ (b : Arguments). AnsweredWhole scaled b length (iOutcome scaled v re im length)) (q .0)
-      (record { passed = subst (λ (b : Arguments). Passed I b length) (sym (q .0)) (q .1); finite = f; answer = ap (λ (o : Outcome). o .answer) e; cells = ap (λ (o : Outcome). o .cells) e }))
+  whole-by (answered answer from cells p s f e) =
+      let d = delivered (visitedBy scaled turned (argumentsOf v re im) length) answer from cells s in
+      inr (record {
+        passed = p;
+        finite = sym (ap allFinite (d .2)) ∙ f;
+        answer = ap (λ (o : Outcome). o .answer) e ∙ d .0;
+        cells = ap (λ (o : Outcome). o .cells) e ∙ d .1;
+      })
 
   -- every call is the one or the other, and its number says which
-  pub whole : RefusedWhole length (iOutcome scaled v re im length) ⊎ AnsweredWhole scaled (argumentsOf v re im) length (iOutcome scaled v re im length)
-  whole = whole-by (ends scaled length (classifyOf I v re im length))
+  pub whole : RefusedWhole length (seriesOutcome scaled turned v re im length) ⊎ AnsweredWhole scaled turned (argumentsOf v re im) length (seriesOutcome scaled turned v re im length)
+  whole = let a = argumentsOf v re im in whole-by (ends (seriesChecks a length) length (visitSteps (visitedBy scaled turned a length)))
 
-  pub refused-whole : 0 < iOutcome scaled v re im length .answer .number → RefusedWhole length (iOutcome scaled v re im length)
+  pub refused-whole : 0 < seriesOutcome scaled turned v re im length .answer .number → RefusedWhole length (seriesOutcome scaled turned v re im length)
   refused-whole h =
       elim whole [
         | inl r ↦ r
-        | inr a ↦ absurd (let z : iOutcome scaled v re im length .answer .number ≡ 0 = ap (λ (x : Answer). x .number) (a .answer) ∙ answer-number (visitedBy scaled length (argumentsOf v re im)) in omega arith)
+        | inr a ↦ absurd (let z : seriesOutcome scaled turned v re im length .answer .number ≡ 0 = ap (λ (x : Answer). x .number) (a .answer) ∙ answer-number (visitedBy scaled turned (argumentsOf v re im) length) in omega arith)
       ]
 
-  pub answered-whole : iOutcome scaled v re im length .answer .number ≡ 0 → AnsweredWhole scaled (argumentsOf v re im) length (iOutcome scaled v re im length)
+  pub answered-whole : seriesOutcome scaled turned v re im length .answer .number ≡ 0 → AnsweredWhole scaled turned (argumentsOf v re im) length (seriesOutcome scaled turned v re im length)
   answered-whole h =
       elim whole [
         | inl r ↦ absurd (let p = never-zero (r .refusal) in let q = r .number in omega arith)
@@ -135,13 +104,14 @@ module _ (scaled : Bool) (v re im : Float) (length : ℕ) where
       ]
 
   -- an outcome has a value for each lent cell
-  pub cells-length : length-of (iOutcome scaled v re im length .cells) ≡ length
+  pub cells-length : length-of (seriesOutcome scaled turned v re im length .cells) ≡ length
+  unfolding visitedBy
   cells-length =
       elim whole [
         | inl r ↦ ap length-of (r .cells) ∙ length-replicate length notANumber
         | inr a ↦
-            let l = lent length (a .passed .lent) in
             let b = argumentsOf v re im in
-            let f = series-fits (length / 2) (omega arith) scaled false (b .order) (b .z) (b .modulus) in
+            let l = lent length (series-passed b length (a .passed) .0 .lent) in
+            let f = series-fits (length / 2) (omega arith) scaled turned (b .order) (b .z) (b .modulus) in
             ap length-of (a .cells) ∙ f .cells ∙ omega arith
       ]

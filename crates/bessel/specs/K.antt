@@ -1,41 +1,60 @@
 -- What a call of K gives. Definitions only.
-use mathlib.Core.Bool.{Bool, false}
-use mathlib.Core.List.{List}
+use mathlib.Core.Bool.{Bool, false, not}
+use mathlib.Core.List.{List, [], _∷_, _++_}
 use Prim.Native.Nat.{ℕ, _/_, _≤_}
+use lib.Dec.{eqb}
 use lib.Ieee.{Float}
+use Rattle.refusal.specs.Number.{numberOf}
+use Rattle.refusal.specs.declared.refusal.Refusal.{Refusal}
+use Rattle.refusal.specs.declared.refusal.Refusal.the-variants.{Start, Climb, Overflow}
+use Rattle.cells.specs.AllFinite.{allFinite}
 use Rattle.right_half_plane.specs.declared.kernel.Counts.{Counts}
 use Rattle.right_half_plane.specs.declared.kernel.Outcome as kernels
 use Rattle.right_half_plane.specs.declared.kernel.Outcome.the-variants as ended
 use Rattle.right_half_plane.specs.Kernel.{Kernel, kernelOf}
-use Rattle.bessel.specs.declared.answer.Answer.{Answer}
+use Rattle.call.specs.declared.answer.Answer.{Answer}
+use Rattle.call.specs.Answer.{signedOf, answeredOf}
+use Rattle.call.specs.Checks.{Check, check}
 use Rattle.bessel.specs.declared.arguments.Arguments.{Arguments}
-use Rattle.bessel.specs.declared.classify.Kind.the-variants.{K}
-use Rattle.bessel.specs.declared.classify.Verdict.{Verdict}
-use Rattle.bessel.specs.declared.classify.Verdict.the-variants.{Admitted, Refused}
-use Rattle.bessel.specs.Answer.{signedOf, answeredOf}
-use Rattle.bessel.specs.Classify.{classifyOf}
-use Rattle.bessel.specs.Outcome.{Outcome, refusedOutcome, judgedOf}
+use Rattle.bessel.specs.Arguments.{argumentsOf}
+use Rattle.bessel.specs.Checks.{kChecks}
+use Rattle.bessel.specs.Outcome.{Outcome, Steps, Delivered, Stopped, callOutcome}
+
+-- the kernel of an admitted call (ZBKNU)
+unfoldable pub kernelBy : Bool → Arguments → ℕ → Kernel
+kernelBy scaled a length = kernelOf scaled (a .order) (a .z) (a .modulus) (length / 2)
 
 -- the kernel's counts, with no stop before the end
 unfoldable pub countsAnswer : Counts → Answer
 countsAnswer c = answeredOf (signedOf false (c .zeros)) (c .«longest_sum») (c .rungs) (c .backward)
 
--- every cell of an answer is judged; a refusal fills them
-unfoldable pub concludedOf : ℕ → kernels.Outcome → List Float → Outcome
-concludedOf length (ended.Answered c) cells = judgedOf length (countsAnswer c) 0 cells
-concludedOf length (ended.Refused r) cells = refusedOutcome r length
+-- every cell of an answer is finished
+unfoldable pub kernelSteps : kernels.Outcome → List Float → Steps
+kernelSteps (ended.Answered c) cells = Delivered (countsAnswer c) 0 cells
+kernelSteps (ended.Refused r) cells = Stopped r
 
-unfoldable pub kernelOutcome : Bool → Arguments → ℕ → Outcome
-kernelOutcome scaled a length =
-    let k : Kernel = kernelOf scaled (a .order) (a .z) (a .modulus) (length / 2) in
-    concludedOf length (k .outcome) (k .cells)
-
-unfoldable pub kOutcomeOf : Bool → ℕ → Verdict → Outcome
-kOutcomeOf scaled length (Admitted a) = kernelOutcome scaled a length
-kOutcomeOf scaled length (Refused r) = refusedOutcome r length
+unfoldable pub kSteps : Bool → Arguments → ℕ → Steps
+kSteps scaled a length = let k = kernelBy scaled a length in kernelSteps (k .outcome) (k .cells)
 
 unfoldable pub kOutcome : Bool → Float → Float → Float → ℕ → Outcome
-kOutcome scaled v re im length = kOutcomeOf scaled length (classifyOf K v re im length)
+kOutcome scaled v re im length =
+    let a = argumentsOf v re im in
+    callOutcome (kChecks a length) length (kSteps scaled a length)
+
+-- ---- all checks, those that the steps answer too: 6, 7 and 8 are the last
+abbrev pub refuses : Refusal → kernels.Outcome → Bool
+refuses refusal (ended.Answered c) = false
+refuses refusal (ended.Refused r) = eqb (numberOf r) (numberOf refusal)
+
+unfoldable pub kernelChecks : Kernel → List Check
+kernelChecks k =
+    check (refuses Start (k .outcome)) Start
+    ∷ check (refuses Climb (k .outcome)) Climb
+    ∷ check (not (allFinite (k .cells))) Overflow
+    ∷ []
+
+unfoldable pub allKChecks : Bool → Arguments → ℕ → List Check
+allKChecks scaled a length = kChecks a length ++ kernelChecks (kernelBy scaled a length)
 
 -- zeros that a count of the record can hold
 abbrev pub Fewer : kernels.Outcome → Type 0

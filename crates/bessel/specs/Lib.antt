@@ -1,7 +1,7 @@
 -- The definitions, by topic.
 pub mod Arguments
-pub mod Classify
-pub mod Answer
+pub mod Checks
 pub mod Outcome
+pub mod Series
 pub mod I
 pub mod K

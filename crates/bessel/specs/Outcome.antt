@@ -5,11 +5,14 @@ use Prim.Native.Nat.{ℕ}
 use lib.ListN.{drop, replicate}
 use lib.Ieee.{Float}
 use Rattle.machine.specs.Constants.{notANumber}
+use Rattle.cells.specs.AllFinite.{allFinite}
 use Rattle.refusal.specs.declared.refusal.Refusal.{Refusal}
 use Rattle.refusal.specs.declared.refusal.Refusal.the-variants.{Overflow}
-use Rattle.bessel.specs.declared.answer.Answer.{Answer}
-use Rattle.bessel.specs.Answer.{refusedOf}
-use Rattle.cells.specs.AllFinite.{allFinite}
+use Rattle.call.specs.declared.answer.Answer.{Answer}
+use Rattle.call.specs.declared.checks.Verdict.{Verdict}
+use Rattle.call.specs.declared.checks.Verdict.the-variants.{Admitted, Refused}
+use Rattle.call.specs.Answer.{refusedOf}
+use Rattle.call.specs.Checks.{Check, verdictOf}
 
 pub record Outcome : Type 0 where
   pub answer : Answer
@@ -26,3 +29,20 @@ judgedIf false length answer cells = refusedOutcome Overflow length
 
 unfoldable pub judgedOf : ℕ → Answer → ℕ → List Float → Outcome
 judgedOf length answer from cells = judgedIf (allFinite (drop from cells)) length answer cells
+
+-- ---- what the steps of an admitted call come to: a record, its cells and the first finished one of them; or a refusal
+pub data Steps : Type 0 where
+  Delivered : Answer → ℕ → List Float → Steps
+  Stopped : Refusal → Steps
+
+unfoldable pub concludedOf : ℕ → Steps → Outcome
+concludedOf length (Delivered answer from cells) = judgedOf length answer from cells
+concludedOf length (Stopped refusal) = refusedOutcome refusal length
+
+-- ---- a call: refused by the first of its checks that applies, and otherwise what its steps come to
+unfoldable pub outcomeBy : Verdict → ℕ → Steps → Outcome
+outcomeBy Admitted length steps = concludedOf length steps
+outcomeBy (Refused refusal) length steps = refusedOutcome refusal length
+
+unfoldable pub callOutcome : List Check → ℕ → Steps → Outcome
+callOutcome checks length steps = outcomeBy (verdictOf checks) length steps

@@ -3,31 +3,31 @@
 // Promised for every input: kOutcome of specs/K.antt, the record and every cell.
 ghost use mathlib.Core.Path.{_≡_};
 ghost use mathlib.Core.Bool.{true};
-ghost use Prim.Native.Nat.{_≤_};
 ghost use lib.Dec.{T};
 ghost use lib.Ieee.{le};
 ghost use lib.ListN.{length};
 ghost use Rattle.laws.proofs.Relative.{nonnegative};
 ghost use Rattle.complex.specs.Functions.{modulusOf};
-ghost use Rattle.right_half_plane.specs.Kernel.{afterwards};
-ghost use Rattle.bessel.specs.Arguments.{largestOrder, lengthInside};
-ghost use Rattle.bessel.specs.K.{Fewer, concludedOf, kernelOutcome, kOutcome};
-use crate::answer::Answer;
-use crate::answer::answered;
-use crate::answer::signed;
+ghost use Rattle.call.specs.Limits.{largestOrder, lengthInside};
+ghost use Rattle.bessel.specs.Outcome.{concludedOf};
+ghost use Rattle.bessel.specs.K.{Fewer, kernelSteps, kSteps, kOutcome};
 use crate::arguments::Arguments;
-use crate::classify::Kind;
-use crate::classify::Verdict;
-use crate::classify::classify;
+use crate::arguments::prepare;
+use crate::checks::k_verdict;
 use crate::outcome::judge;
 use crate::outcome::refuse;
+use call::answer::Answer;
+use call::answer::answered;
+use call::answer::signed;
+use call::checks::Verdict;
 use right_half_plane::kernel::Outcome;
 use right_half_plane::kernel::k_right_half_plane;
 
 // Every entry of an answer is finished; a refusal has left the cells as they were, and they are filled here.
 fn concluded(outcome: Outcome, out: &mut [f64]) -> Answer
     requires { ⌜ Fewer outcome ⌝ }
-    ensures { λ r. ⌜ (r ≡ concludedOf (length (now (out .entry))) outcome (now (out .entry)) .answer) × (now (out .exit) ≡ concludedOf (length (now (out .entry))) outcome (now (out .entry)) .cells) ⌝ }
+    ensures { λ r. ⌜ (r ≡ concludedOf (length (now (out .entry))) (kernelSteps outcome (now (out .entry))) .answer)
+        × (now (out .exit) ≡ concludedOf (length (now (out .entry))) (kernelSteps outcome (now (out .entry))) .cells) ⌝ }
 {
     match outcome {
         Outcome::Answered(c) => judge(
@@ -40,8 +40,12 @@ fn concluded(outcome: Outcome, out: &mut [f64]) -> Answer
 }
 
 fn by_kernel(scaled: bool, a: Arguments, out: &mut [f64]) -> Answer
-    requires { ⌜ (lengthInside (length (now out)) ≡ true) × T (nonnegative (a .order)) × T (le (a .order) largestOrder) × (a .modulus ≡ modulusOf (a .z)) ⌝ }
-    ensures { λ r. ⌜ (r ≡ kernelOutcome scaled a (length (now (out .entry))) .answer) × (now (out .exit) ≡ kernelOutcome scaled a (length (now (out .entry))) .cells) ⌝ }
+    requires { ⌜ (lengthInside (length (now out)) ≡ true)
+        × T (nonnegative (a .order))
+        × T (le (a .order) largestOrder)
+        × (a .modulus ≡ modulusOf (a .z)) ⌝ }
+    ensures { λ r. ⌜ (r ≡ concludedOf (length (now (out .entry))) (kSteps scaled a (length (now (out .entry)))) .answer)
+        × (now (out .exit) ≡ concludedOf (length (now (out .entry))) (kSteps scaled a (length (now (out .entry)))) .cells) ⌝ }
 {
     let z = a.z;
     let outcome = k_right_half_plane(scaled, a.order, z, a.modulus, out);
@@ -49,11 +53,13 @@ fn by_kernel(scaled: bool, a: Arguments, out: &mut [f64]) -> Answer
 }
 
 pub fn k(scaled: bool, v: f64, re: f64, im: f64, out: &mut [f64]) -> Answer
-    ensures { λ r. ⌜ (r ≡ kOutcome scaled v re im (length (now (out .entry))) .answer) × (now (out .exit) ≡ kOutcome scaled v re im (length (now (out .entry))) .cells) ⌝ }
+    ensures { λ r. ⌜ (r ≡ kOutcome scaled v re im (length (now (out .entry))) .answer)
+        × (now (out .exit) ≡ kOutcome scaled v re im (length (now (out .entry))) .cells) ⌝ }
 {
-    let verdict = classify(Kind::K, v, re, im, out.len());
+    let a = prepare(v, re, im);
+    let verdict = k_verdict(a, out.len());
     match verdict {
-        Verdict::Admitted(a) => by_kernel(scaled, a, out),
+        Verdict::Admitted => by_kernel(scaled, a, out),
         Verdict::Refused(refusal) => refuse(refusal, out),
     }
 }

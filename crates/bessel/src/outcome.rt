@@ -3,22 +3,24 @@
 ghost use mathlib.Core.Path.{_≡_};
 ghost use lib.ListN.{length};
 ghost use Rattle.bessel.specs.Outcome.{refusedOutcome, judgedOf};
-use crate::answer::Answer;
-use crate::answer::refused;
+use call::answer::Answer;
+use call::answer::refused;
 use cells::all_finite::all_finite;
 use cells::fill::fill;
 use machine::constants::not_a_number;
 use refusal::refusal::Refusal;
 
 pub fn refuse(refusal: Refusal, out: &mut [f64]) -> Answer
-    ensures { λ r. ⌜ (r ≡ refusedOutcome refusal (length (now (out .entry))) .answer) × (now (out .exit) ≡ refusedOutcome refusal (length (now (out .entry))) .cells) ⌝ }
+    ensures { λ r. ⌜ (r ≡ refusedOutcome refusal (length (now (out .entry))) .answer)
+        × (now (out .exit) ≡ refusedOutcome refusal (length (now (out .entry))) .cells) ⌝ }
 {
     fill(out, not_a_number());
     refused(refusal)
 }
 
 pub fn judge(answer: Answer, from: usize, out: &mut [f64]) -> Answer
-    ensures { λ r. ⌜ (r ≡ judgedOf (length (now (out .entry))) answer from (now (out .entry)) .answer) × (now (out .exit) ≡ judgedOf (length (now (out .entry))) answer from (now (out .entry)) .cells) ⌝ }
+    ensures { λ r. ⌜ (r ≡ judgedOf (length (now (out .entry))) answer from (now (out .entry)) .answer)
+        × (now (out .exit) ≡ judgedOf (length (now (out .entry))) answer from (now (out .entry)) .cells) ⌝ }
 {
     if all_finite(out, from) {
         return answer;

@@ -14,11 +14,11 @@ ghost use Rattle.circular.specs.CosPi.{cosPiOf};
 ghost use Rattle.angle.specs.Angle.{angleOf};
 ghost use Rattle.rounding.specs.Round.{roundOf};
 ghost use Rattle.gamma_ln.specs.LogGamma.{logGammaOf};
-ghost use Rattle.capi.specs.Outcome.{outcomeOf, isScaled};
+ghost use Rattle.capi.specs.Outcome.{outcomeOf, isScaled, answerOf};
 ghost use Rattle.bessel.specs.I.{iOutcome};
 ghost use Rattle.bessel.specs.K.{kOutcome};
 ghost use lib.ListN.{length};
-use bessel::answer::Answer;
+use call::answer;
 use gamma_ln::log_gamma::log_gamma;
 use machine::constants::not_a_number;
 
@@ -130,18 +130,42 @@ pub extern "C" fn lichenoar_log_gamma(x: f64) -> LogGamma
     }
 }
 
+// What a call returns, as programs in other languages have its layout: it does not change. The library's own record may grow.
+#[repr(C)]
+pub struct Answer {
+    pub number: u32,
+    pub zeros: i32,
+    pub longest_sum: u32,
+    pub rungs: u32,
+    pub backward: u32,
+}
+
+fn projected(a: answer::Answer) -> Answer
+    ensures { λ r. ⌜ r ≡ answerOf a ⌝ }
+{
+    Answer {
+        number: a.number,
+        zeros: a.zeros,
+        longest_sum: a.longest_sum,
+        rungs: a.rungs,
+        backward: a.backward,
+    }
+}
+
 // n orders of I into the 2n lent cells, re before im. scaled: 0 no, any other yes. Refused or not, every cell is written.
 #[no_mangle]
 pub extern "C" fn lichenoar_i(scaled: u8, v: f64, re: f64, im: f64, out: &mut [f64]) -> Answer
-    ensures { λ r. ⌜ (r ≡ iOutcome (isScaled scaled) v re im (length (now (out .entry))) .answer) × (now (out .exit) ≡ iOutcome (isScaled scaled) v re im (length (now (out .entry))) .cells) ⌝ }
+    ensures { λ r. ⌜ (r ≡ answerOf (iOutcome (isScaled scaled) v re im (length (now (out .entry))) .answer))
+        × (now (out .exit) ≡ iOutcome (isScaled scaled) v re im (length (now (out .entry))) .cells) ⌝ }
 {
-    bessel::i::i(scaled != 0, v, re, im, out)
+    projected(bessel::i::i(scaled != 0, v, re, im, out))
 }
 
 // n orders of K into the 2n lent cells, as for I.
 #[no_mangle]
 pub extern "C" fn lichenoar_k(scaled: u8, v: f64, re: f64, im: f64, out: &mut [f64]) -> Answer
-    ensures { λ r. ⌜ (r ≡ kOutcome (isScaled scaled) v re im (length (now (out .entry))) .answer) × (now (out .exit) ≡ kOutcome (isScaled scaled) v re im (length (now (out .entry))) .cells) ⌝ }
+    ensures { λ r. ⌜ (r ≡ answerOf (kOutcome (isScaled scaled) v re im (length (now (out .entry))) .answer))
+        × (now (out .exit) ≡ kOutcome (isScaled scaled) v re im (length (now (out .entry))) .cells) ⌝ }
 {
-    bessel::k::k(scaled != 0, v, re, im, out)
+    projected(bessel::k::k(scaled != 0, v, re, im, out))
 }

@@ -13,7 +13,7 @@ use Rattle.gamma_ln.specs.declared.gamma_ln.Computed.{Computed}
 use Rattle.gamma_ln.specs.Series.{seriesOf, EndsByTest}
 use Rattle.gamma_ln.specs.Factors.{withFactor, factorsOf}
 use Rattle.gamma_ln.specs.GammaLn.{isTabulated, stirlingOf, shiftOf, shiftedOf, seriesArgumentOf, gammaLnOf}
-use Rattle.gamma_ln.proofs.Outcome.{positive-not-le}
+use Rattle.gamma_ln.proofs.LogGammaFacts.{positive-not-le}
 use Rattle.gamma_ln.proofs.LowerEnd.{lower-end}
 use Rattle.gamma_ln.proofs.SeriesEnds.{ends-by-test}
 

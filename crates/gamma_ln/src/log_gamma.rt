@@ -1,8 +1,10 @@
 // The entry point: ln of the gamma function of a positive number, or the refusal 2 (not finite), 10 (0 or less) or 8 (the value is not finite),
 // tested in this order. Promised for every f64: specs/LogGamma.antt. A refusal holds no value.
 ghost use mathlib.Core.Path.{_≡_};
-ghost use Rattle.gamma_ln.specs.LogGamma.{logGammaOf};
+ghost use Rattle.call.specs.Checks.{verdictOf};
+ghost use Rattle.gamma_ln.specs.LogGamma.{argumentChecks, valuedOf, logGammaOf};
 use crate::gamma_ln::gamma_ln;
+use call::checks::Verdict;
 use machine::finite::is_finite;
 use refusal::refusal::Refusal;
 
@@ -11,19 +13,30 @@ pub enum LogGamma {
     Refused(Refusal),
 }
 
-pub fn log_gamma(x: f64) -> LogGamma
-    ensures { λ r. ⌜ r ≡ logGammaOf x ⌝ }
+fn argument_verdict(x: f64) -> Verdict
+    ensures { λ r. ⌜ r ≡ verdictOf (argumentChecks x) ⌝ }
 {
-    if !is_finite(x) {
-        return LogGamma::Refused(Refusal::NotFinite);
-    }
-    if x <= 0.0 {
-        return LogGamma::Refused(Refusal::NotPositive);
-    }
-    let value = gamma_ln(x).value;
+    Verdict::Admitted
+        .refused_if(!is_finite(x), Refusal::NotFinite)
+        .refused_if(x <= 0.0, Refusal::NotPositive)
+}
+
+fn valued(value: f64) -> LogGamma
+    ensures { λ r. ⌜ r ≡ valuedOf value ⌝ }
+{
     if is_finite(value) {
         LogGamma::Value(value)
     } else {
         LogGamma::Refused(Refusal::Overflow)
+    }
+}
+
+pub fn log_gamma(x: f64) -> LogGamma
+    ensures { λ r. ⌜ r ≡ logGammaOf x ⌝ }
+{
+    let verdict = argument_verdict(x);
+    match verdict {
+        Verdict::Admitted => valued(gamma_ln(x).value),
+        Verdict::Refused(refusal) => LogGamma::Refused(refusal),
     }
 }

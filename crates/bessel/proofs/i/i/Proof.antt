@@ -1,45 +1,18 @@
--- `bessel::i::i` meets its contract: the verdict, and what follows it. Assumes nothing.
-use mathlib.Core.Path.{sym, _∙_}
-use Rattle.bessel.proofs.ClassifyFacts.{admitted}
-use Rattle.bessel.specs.I.{iOutcomeOf, iOutcome}
+-- `bessel::i::i` meets its contract: the power series with its sign as it is. Assumes nothing.
+use Rattle.bessel.specs.I.{iOutcome}
 use borrow.Author.Needs.{needs}
 use Rattle.bessel.proofs.i.i.Statement.{statement}
 use Rattle.bessel.proofs.i.i.Tie as tie
 
-classify-requires : tie.Need-classify-requires
-classify-requires c κs = search needs
-
-enum-known-verdict : tie.Need-enum-known-verdict
-enum-known-verdict c = search needs
-
-by-series-requires : tie.Need-by-series-requires
-by-series-requires c κs =
-    let v = c .before .before in
-    admitted _ _ _ _ _ _ (sym (v .before .before .classify .ensures) ∙ v .verdict .given .1) .1 .lent
-
-enum-known-verdict-2 : tie.Need-enum-known-verdict-2
-enum-known-verdict-2 c = search needs
-
-refuse-requires : tie.Need-refuse-requires
-refuse-requires c κs = search needs
+series-call-requires : tie.Need-series-call-requires
+series-call-requires c κs = search needs
 
 same-length : tie.Need-same-length
 same-length c = search needs
 
 returns : tie.Need-returns
-unfolding iOutcomeOf iOutcome
-returns c =
-    let v = c .before .before .before .before .before in
-    rw (← v .before .before .classify .ensures, v .verdict .given .1) (c .before .before .by-series .ensures)
-
-same-length-2 : tie.Need-same-length-2
-same-length-2 c = search needs
-
-returns-2 : tie.Need-returns-2
-unfolding iOutcomeOf iOutcome
-returns-2 c =
-    let v = c .before .before .before .before .before in
-    rw (← v .before .before .classify .ensures, v .verdict2 .given .1) (c .before .before .refuse .ensures)
+unfolding iOutcome
+returns c = c .before .before .series-call .ensures
 
 pub i-spec : {M : Type 1} → statement M
-i-spec = tie.close (tie.spec classify-requires enum-known-verdict by-series-requires enum-known-verdict-2 refuse-requires same-length returns same-length-2 returns-2)
+i-spec = tie.close (tie.spec series-call-requires same-length returns)

@@ -2,8 +2,8 @@
 use mathlib.Core.Path.{ap, _∙_}
 use lib.ListN.{length}
 use Rattle.bessel.specs.Outcome.{Outcome}
-use Rattle.bessel.specs.K.{kernelOutcome}
-use Rattle.bessel.proofs.LengthFacts.{lent}
+use Rattle.bessel.specs.K.{kernelBy, kSteps}
+use Rattle.call.proofs.LimitFacts.{lent}
 use Rattle.bessel.proofs.KernelFacts.{zeros-few, concluded-kernel}
 use borrow.Author.Needs.{needs}
 use Rattle.bessel.proofs.k.by_kernel.Statement.{statement}
@@ -24,7 +24,7 @@ same-length : tie.Need-same-length
 same-length c = search needs
 
 returns : tie.Need-returns
-unfolding kernelOutcome
+unfolding kernelBy kSteps
 returns c =
     let f = c .before .before in
     let d = f .before .before .before .before in

@@ -4,9 +4,9 @@ use native.Mathlib.Omega.{arith}
 use lib.IntN.{ℤ}
 use mir.Syntax.{w32}
 use mir.Facts.{toZ-ofZ}
-use Rattle.bessel.specs.Answer.{answeredOf}
-use Rattle.bessel.specs.Outcome.{Outcome}
-use Rattle.bessel.specs.K.{concludedOf, Fewer}
+use Rattle.call.specs.Answer.{answeredOf}
+use Rattle.bessel.specs.Outcome.{Outcome, concludedOf}
+use Rattle.bessel.specs.K.{kernelSteps, Fewer}
 use Rattle.bessel.proofs.KernelFacts.{judged-counts}
 use borrow.Author.Needs.{needs}
 use Rattle.bessel.proofs.k.concluded.Statement.{statement}
@@ -37,7 +37,7 @@ same-length : tie.Need-same-length
 same-length c = search needs
 
 returns : tie.Need-returns
-unfolding concludedOf
+unfolding concludedOf kernelSteps
 returns c =
     let j = c .before .before in
     let a = j .before .before in
@@ -51,7 +51,7 @@ same-length-2 : tie.Need-same-length-2
 same-length-2 c = search needs
 
 returns-2 : tie.Need-returns-2
-unfolding concludedOf
+unfolding concludedOf kernelSteps
 returns-2 c = rw (c .before .before .before .before .before .outcome2 .given .1) (c .before .before .refuse .ensures)
 
 pub concluded-spec : {M : Type 1} → statement M

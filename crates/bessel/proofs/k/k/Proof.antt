@@ -1,27 +1,28 @@
 -- `bessel::k::k` meets its contract: the verdict, and what follows it. Assumes nothing.
 use mathlib.Core.Path.{sym, _∙_}
-use Rattle.bessel.proofs.ClassifyFacts.{admitted}
-use Rattle.bessel.proofs.ArgumentFacts.{admitted-order, admitted-modulus}
-use Rattle.bessel.specs.K.{kOutcomeOf, kOutcome}
+use Rattle.bessel.specs.Outcome.{outcomeBy, callOutcome}
+use Rattle.bessel.specs.K.{kOutcome}
+use Rattle.bessel.proofs.ArgumentFacts.{k-ready}
 use borrow.Author.Needs.{needs}
 use Rattle.bessel.proofs.k.k.Statement.{statement}
 use Rattle.bessel.proofs.k.k.Tie as tie
 
-classify-requires : tie.Need-classify-requires
-classify-requires c κs = search needs
+prepare-requires : tie.Need-prepare-requires
+prepare-requires c κs = search needs
 
-enum-known-verdict : tie.Need-enum-known-verdict
-enum-known-verdict c = search needs
+k-verdict-requires : tie.Need-k-verdict-requires
+k-verdict-requires c κs = search needs
+
+enum-told : tie.Need-enum-told
+enum-told c = search needs
 
 by-kernel-requires : tie.Need-by-kernel-requires
 by-kernel-requires c κs =
-    let v = c .before .before in
-    let e = sym (v .before .before .classify .ensures) ∙ v .verdict .given .1 in
-    let o = admitted-order _ _ _ _ _ _ e in
-    (admitted _ _ _ _ _ _ e .1 .lent, o .0, o .1, admitted-modulus _ _ _ _ _ _ e)
+    let d = c .before .before .before in
+    k-ready _ _ _ _ _ (d .before .prepare .ensures) (sym (d .k-verdict .ensures) ∙ c .before .enum-told .given .1)
 
-enum-known-verdict-2 : tie.Need-enum-known-verdict-2
-enum-known-verdict-2 c = search needs
+enum-known-verdict : tie.Need-enum-known-verdict
+enum-known-verdict c = search needs
 
 refuse-requires : tie.Need-refuse-requires
 refuse-requires c κs = search needs
@@ -30,19 +31,33 @@ same-length : tie.Need-same-length
 same-length c = search needs
 
 returns : tie.Need-returns
-unfolding kOutcomeOf kOutcome
+unfolding kOutcome callOutcome outcomeBy
 returns c =
-    let v = c .before .before .before .before .before in
-    rw (← v .before .before .classify .ensures, v .verdict .given .1) (c .before .before .by-kernel .ensures)
+    let b = c .before .before in
+    let d = b .before .before .before .before in
+    rw (← d .before .prepare .ensures, ← d .k-verdict .ensures, b .before .before .enum-told .given .1) (b .by-kernel .ensures)
 
 same-length-2 : tie.Need-same-length-2
 same-length-2 c = search needs
 
 returns-2 : tie.Need-returns-2
-unfolding kOutcomeOf kOutcome
+unfolding kOutcome callOutcome outcomeBy
 returns-2 c =
-    let v = c .before .before .before .before .before in
-    rw (← v .before .before .classify .ensures, v .verdict2 .given .1) (c .before .before .refuse .ensures)
+    let b = c .before .before in
+    let d = b .before .before .before .before .before in
+    rw (← d .before .prepare .ensures, ← d .k-verdict .ensures, b .before .before .before .verdict .given .1) (b .refuse .ensures)
 
 pub k-spec : {M : Type 1} → statement M
-k-spec = tie.close (tie.spec classify-requires enum-known-verdict by-kernel-requires enum-known-verdict-2 refuse-requires same-length returns same-length-2 returns-2)
+k-spec =
+    tie.close
+    (tie.spec
+    prepare-requires
+    k-verdict-requires
+    enum-told
+    by-kernel-requires
+    enum-known-verdict
+    refuse-requires
+    same-length
+    returns
+    same-length-2
+    returns-2)

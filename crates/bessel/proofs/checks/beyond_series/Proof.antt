@@ -1,9 +1,9 @@
--- `bessel::arguments::Arguments::beyond_series` meets its contract: the same operations in the same order. Assumes nothing.
+-- `bessel::checks::beyond_series` meets its contract: the same operations in the same order. Assumes nothing.
 use mathlib.Core.Path.{refl}
 use Rattle.power_series.specs.Orders.{orderAt, orderPlusOne, beyondSeries}
 use borrow.Author.Needs.{needs}
-use Rattle.bessel.proofs.arguments.Arguments.beyond_series.Statement.{statement}
-use Rattle.bessel.proofs.arguments.Arguments.beyond_series.Tie as tie
+use Rattle.bessel.proofs.checks.beyond_series.Statement.{statement}
+use Rattle.bessel.proofs.checks.beyond_series.Tie as tie
 
 sub-largest-order : tie.Need-sub-largest-order
 sub-largest-order c = search needs

@@ -1,18 +1,18 @@
--- `bessel::i::by_series` meets its contract: the visit, its counts, and the judgement of its finished entries. Assumes nothing.
+-- `bessel::series::by_series` meets its contract: the visit, its counts, and the judgement of its finished entries. Assumes nothing.
 use lib.IntN.{ℤ}
 use lib.ListN.{length}
 use mir.Syntax.{w32}
 use mir.Facts.{toZ-ofZ}
-use Rattle.bessel.specs.Answer.{answeredOf}
+use Rattle.call.specs.Answer.{answeredOf}
 use Rattle.bessel.specs.Outcome.{Outcome}
-use Rattle.bessel.specs.I.{seriesOutcome}
-use Rattle.bessel.proofs.LengthFacts.{lent}
+use Rattle.bessel.specs.Series.{visitedBy, visitSteps}
+use Rattle.call.proofs.LimitFacts.{lent}
 use Rattle.bessel.proofs.SeriesFacts.{counts-small, judged-visit}
 use native.Mathlib.Omega.{arith}
 use mathlib.Core.Path.{ap, _∙_}
 use borrow.Author.Needs.{needs}
-use Rattle.bessel.proofs.i.by_series.Statement.{statement}
-use Rattle.bessel.proofs.i.by_series.Tie as tie
+use Rattle.bessel.proofs.series.by_series.Statement.{statement}
+use Rattle.bessel.proofs.series.by_series.Tie as tie
 
 power-series-requires : tie.Need-power-series-requires
 power-series-requires c κs = let l = lent _ (c .before .before .before .pre) in (l .some, l .even, l .most)
@@ -39,7 +39,7 @@ same-length : tie.Need-same-length
 same-length c = search needs
 
 returns : tie.Need-returns
-unfolding seriesOutcome
+unfolding visitedBy
 returns c =
     let j = c .before .before in
     let a = j .before .before .before in

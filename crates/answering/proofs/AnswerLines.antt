@@ -1,37 +1,35 @@
 -- What is shown of answer lines: none has a second, their lengths, the number in the first two digits, and digits alone. Assumes nothing.
-use mathlib.Core.Path.{_≡_, refl, sym, ap, _∙_}
+use mathlib.Core.Path.{_≡_, sym, ap, _∙_}
 use mathlib.Core.Logic.{inl, inr}
-use mathlib.Core.Bool.{Bool, true, false, cond}
-use mathlib.Core.List.{List, [], _∷_, append-assoc}
-use Prim.Native.Nat.{ℕ, _+_, _*_, _%_, _≤_}
+use mathlib.Core.Bool.{true, false}
+use mathlib.Core.List.{List}
+use Prim.Native.Nat.{ℕ, _+_, _*_, _≤_, _<_}
 use native.Mathlib.Omega.{arith}
-use lib.Dec.{eqb}
-use lib.Ieee.{Float, binary64, toBits}
 use lib.ListN.{length, take}
-use lib.Seq.{take-at}
 use Rattle.refusal.specs.Number.{numberOf as refusal-number}
 use Rattle.refusal.specs.declared.refusal.Refusal.{Refusal}
 use Rattle.refusal.specs.declared.refusal.Refusal.the-variants as refusals
-use Rattle.bessel.specs.declared.answer.Answer.{Answer}
-use Rattle.bessel.specs.declared.classify.Kind.{Kind}
-use Rattle.bessel.specs.declared.classify.Kind.the-variants.{K, I}
-use Rattle.bessel.specs.Answer.{answeredOf, refusedOf}
+use Rattle.call.specs.declared.answer.Answer.{Answer}
+use Rattle.call.specs.declared.kind.Kind.{Kind}
+use Rattle.call.specs.declared.kind.Kind.the-variants.{K, I}
+use Rattle.call.specs.Answer.{answeredOf, refusedOf}
+use Rattle.frame.specs.declared.asking.Asking.{Asking}
+use Rattle.frame.specs.declared.asking.Parsed.{Parsed}
+use Rattle.frame.specs.declared.asking.Parsed.the-variants.{Asked, Malformed}
+use Rattle.frame.specs.Layout.{byteWidth, recordLength}
+use Rattle.frame.specs.Digits.{areDigits, numberOf, spelledOf}
+use Rattle.frame.specs.Asking.{parsedOf}
+use Rattle.frame.proofs.FieldFacts.{number-back}
+use Rattle.frame.proofs.WriteFacts.{record-length, line-refused, line-digits, line-number}
 use Rattle.bessel.specs.Outcome.{refusedOutcome}
 use Rattle.bessel.specs.K.{countsAnswer}
-use Rattle.bessel.specs.I.{visitAnswer}
+use Rattle.bessel.specs.Series.{visitAnswer}
+use Rattle.bessel.specs.I.{iOutcome}
 use Rattle.bessel.proofs.KernelOutcome as kernel
 use Rattle.bessel.proofs.SeriesOutcome as series
-use Rattle.frames.specs.declared.asking.Asking.{Asking}
-use Rattle.frames.specs.declared.asking.Parsed.{Parsed}
-use Rattle.frames.specs.declared.asking.Parsed.the-variants.{Asked, Malformed}
-use Rattle.frames.specs.Layout.{byteWidth, countWidth, floatWidth, recordLength}
-use Rattle.frames.specs.Digits.{areDigits, numberOf, numberFrom, spelledOf}
-use Rattle.frames.specs.Asking.{parsedOf}
-use Rattle.frames.specs.AnswerLine.{twosComplement, recordOf, cellsOf, lineOf, calledAs, calledOf, outcomeOf, outcomeLine, answerLineOf, sizeInto, bytesInto}
-use Rattle.frames.proofs.DigitFacts.{digits-append, spelled-digits, number-spelled}
-use Rattle.frames.proofs.SpellFacts.{spelled-length}
-use Rattle.frames.proofs.WriteFacts.{record-length, line-refused}
-use Rattle.frames.proofs.LineFacts.{asked-line, answered-length}
+use Rattle.answering.specs.Called.{calledAs, calledOf, outcomeLine}
+use Rattle.answering.specs.Line.{outcomeOf, answerLineOf, sizeInto, bytesInto}
+use Rattle.answering.proofs.LineFacts.{asked-line, answered-length}
 
 -- ---- the contract of `answer_line` leaves no second line
 pub only-line :
@@ -61,14 +59,14 @@ few-refusals refusals.Malformed = omega arith
 few-refusals refusals.NotPositive = omega arith
 
 called-number : (kind : Kind) (a : Asking) (n : ℕ) → calledAs kind a n .answer .number ≤ 10
-unfolding calledAs countsAnswer visitAnswer answeredOf
+unfolding calledAs iOutcome countsAnswer visitAnswer answeredOf
 called-number K a n =
     elim (kernel.whole (a .scaled) (a .v) (a .re) (a .im) n) [
       | inl r ↦ omega (arith, r .number, few-refusals (r .refusal))
       | inr w ↦ omega (arith, ap (λ (x : Answer). x .number) (w .answer))
     ]
 called-number I a n =
-    elim (series.whole (a .scaled) (a .v) (a .re) (a .im) n) [
+    elim (series.whole (a .scaled) false (a .v) (a .re) (a .im) n) [
       | inl r ↦ omega (arith, r .number, few-refusals (r .refusal))
       | inr w ↦ omega (arith, ap (λ (x : Answer). x .number) (w .answer))
     ]
@@ -80,41 +78,16 @@ parsed-number Malformed = few-refusals refusals.Malformed
 
 -- ---- the first two digits, read back, are the number
 pub number-first : (line : List ℕ) → take byteWidth (answerLineOf line) ≡ spelledOf byteWidth (outcomeOf (parsedOf line) .answer .number)
-unfolding answerLineOf outcomeLine lineOf recordOf
-number-first line =
-    let n = spelledOf byteWidth (outcomeOf (parsedOf line) .answer .number) in
-    ap (take byteWidth) (append-assoc n _ _) ∙ take-at n _ byteWidth (spelled-length byteWidth _)
+unfolding answerLineOf outcomeLine
+number-first line = let o = outcomeOf (parsedOf line) in line-number (o .answer) (o .cells)
 
 pub number-read : (line : List ℕ) → numberOf (take byteWidth (answerLineOf line)) ≡ outcomeOf (parsedOf line) .answer .number
-unfolding numberOf
-number-read line =
-    let n = outcomeOf (parsedOf line) .answer .number in
-    ap (numberFrom 0) (number-first line) ∙ number-spelled byteWidth 0 n ∙ small n (parsed-number (parsedOf line))
+number-read line = ap numberOf (number-first line) ∙ number-back byteWidth _ (small _ (parsed-number (parsedOf line)))
   where
-    small : (n : ℕ) → n ≤ 10 → 0 * 256 + n % 256 ≡ n
+    small : (n : ℕ) → n ≤ 10 → n < 256
     small n h = omega arith
 
 -- ---- every byte is an upper-case digit, so that a newline behind a line ends it
-record-digits : (a : Answer) → areDigits (recordOf a) ≡ true
-unfolding recordOf
-record-digits a =
-    digits-append _ _ (spelled-digits byteWidth (a .number))
-    (digits-append _ _ (spelled-digits countWidth (twosComplement (a .zeros)))
-    (digits-append _ _ (spelled-digits countWidth (a .«longest_sum»))
-    (digits-append _ _ (spelled-digits countWidth (a .rungs)) (spelled-digits countWidth (a .backward)))))
-
-cells-digits : (xs : List Float) → areDigits (cellsOf xs) ≡ true
-unfolding cellsOf areDigits
-cells-digits [] = refl
-cells-digits (x ∷ xs) = digits-append (spelledOf floatWidth (toBits binary64 x)) (cellsOf xs) (spelled-digits floatWidth (toBits binary64 x)) (cells-digits xs)
-
-picked-digits : (cells : List Float) (b : Bool) → areDigits (cond b (cellsOf cells) []) ≡ true
-unfolding areDigits
-picked-digits cells true = cells-digits cells
-picked-digits cells false = refl
-
 pub all-digits : (line : List ℕ) → areDigits (answerLineOf line) ≡ true
-unfolding answerLineOf outcomeLine lineOf
-all-digits line =
-    let o = outcomeOf (parsedOf line) in
-    digits-append (recordOf (o .answer)) (cond (eqb (o .answer .number) 0) (cellsOf (o .cells)) []) (record-digits (o .answer)) (picked-digits (o .cells) (eqb (o .answer .number) 0))
+unfolding answerLineOf outcomeLine
+all-digits line = let o = outcomeOf (parsedOf line) in line-digits (o .answer) (o .cells)

@@ -1,42 +1,52 @@
--- Refusals as lines: a refusal's line is its record, and a count that no buffer can have is refused for its length, whatever else the frame says. Assumes nothing.
+-- Refusals as lines: a refusal's line is its record, and a count that no buffer can have is refused for its length, whatever else the frame
+-- says. Assumes nothing.
 use mathlib.Core.Path.{_≡_, refl, ap, _∙_}
-use mathlib.Core.Bool.{Bool, true, false, _&&_}
-use Prim.Native.Nat.{ℕ, _*_, _/_, _<_}
+use mathlib.Core.Bool.{Bool, true, false, not, _&&_}
+use mathlib.Core.List.{List, _++_}
+use Prim.Native.Nat.{ℕ, _*_, _<_}
 use native.Mathlib.Omega.{arith}
 use borrow.Author.Tests.{lt-leb}
 use lib.Dec.{ltb}
-use lib.Ieee.{Float}
 use Rattle.refusal.proofs.Distinct.{never-zero}
 use Rattle.refusal.specs.declared.refusal.Refusal.{Refusal}
 use Rattle.refusal.specs.declared.refusal.Refusal.the-variants.{Length}
-use Rattle.bessel.specs.declared.classify.Kind.{Kind}
-use Rattle.bessel.specs.declared.classify.Kind.the-variants.{K, I}
-use Rattle.bessel.specs.declared.classify.Verdict.the-variants.{Refused}
-use Rattle.bessel.specs.Answer.{refusedOf}
-use Rattle.bessel.specs.Arguments.{argumentsOf, lengthInside, areFinite, orderInside, signInside, sizeInside}
-use Rattle.bessel.specs.Classify.{zeroRefused, seriesRefused, classifyOf}
-use Rattle.bessel.specs.Outcome.{refusedOutcome}
-use Rattle.bessel.specs.I.{iOutcomeOf, iOutcome}
-use Rattle.bessel.specs.K.{kOutcomeOf, kOutcome}
-use Rattle.bessel.proofs.ClassifyFacts.{picked, picks}
-use Rattle.frames.specs.declared.asking.Asking.{Asking}
-use Rattle.frames.specs.AnswerLine.{recordOf, calledAs, calledOf, outcomeLine}
-use Rattle.frames.proofs.WriteFacts.{line-refused}
+use Rattle.call.specs.declared.kind.Kind.{Kind}
+use Rattle.call.specs.declared.kind.Kind.the-variants.{K, I}
+use Rattle.call.specs.declared.checks.Verdict.{Verdict}
+use Rattle.call.specs.declared.checks.Verdict.the-variants.{Admitted, Refused}
+use Rattle.call.specs.Answer.{refusedOf}
+use Rattle.call.specs.Limits.{lengthInside}
+use Rattle.call.specs.Checks.{Check, refusedIf, verdictFrom, verdictOf, lengthChecks}
+use Rattle.call.proofs.FirstFacts.{stays}
+use Rattle.frame.specs.declared.asking.Asking.{Asking}
+use Rattle.frame.specs.Writing.{recordOf}
+use Rattle.frame.proofs.WriteFacts.{line-refused}
+use Rattle.bessel.specs.Arguments.{argumentsOf}
+use Rattle.bessel.specs.Checks.{argumentChecks, kChecks, seriesChecks}
+use Rattle.bessel.specs.Outcome.{Steps, refusedOutcome, outcomeBy, callOutcome}
+use Rattle.bessel.specs.Series.{visitedBy, visitSteps, seriesOutcome}
+use Rattle.bessel.specs.I.{iOutcome}
+use Rattle.bessel.specs.K.{kSteps, kOutcome}
+use Rattle.answering.specs.Called.{calledAs, calledOf, outcomeLine}
 
 pub refused-line : (r : Refusal) (length : ℕ) → outcomeLine (refusedOutcome r length) ≡ recordOf (refusedOf r)
 unfolding outcomeLine refusedOutcome refusedOf
 refused-line r length = line-refused (refusedOf r) _ (λ e. omega (arith, never-zero r))
 
-by-length : (kind : Kind) (v re im : Float) (length : ℕ) → lengthInside length ≡ false → classifyOf kind v re im length ≡ Refused Length
-by-length kind v re im length e =
-    let a = argumentsOf v re im in
-    picks kind v re im length
-    ∙ ap (λ (b : Bool). picked a b (areFinite a) (orderInside a) (signInside a) (sizeInside a) (zeroRefused kind a) (seriesRefused kind a (length / 2))) e
+-- the length is the first check of every call
+by-length : (length : ℕ) (later : List Check) → lengthInside length ≡ false → verdictOf (lengthChecks length ++ later) ≡ Refused Length
+unfolding verdictOf verdictFrom refusedIf lengthChecks
+by-length length later e = rw e (stays Length later)
+
+module _ (length : ℕ) (later : List Check) (steps : Steps) where
+  refused-first : lengthInside length ≡ false → callOutcome (lengthChecks length ++ later) length steps ≡ refusedOutcome Length length
+  unfolding callOutcome outcomeBy
+  refused-first e = ap (λ (v : Verdict). outcomeBy v length steps) (by-length length later e)
 
 called : (kind : Kind) (a : Asking) (length : ℕ) → lengthInside length ≡ false → calledAs kind a length ≡ refusedOutcome Length length
-unfolding calledAs kOutcome kOutcomeOf iOutcome iOutcomeOf
-called K a length e = ap (kOutcomeOf (a .scaled) length) (by-length K (a .v) (a .re) (a .im) length e)
-called I a length e = ap (iOutcomeOf (a .scaled) length) (by-length I (a .v) (a .re) (a .im) length e)
+unfolding calledAs kOutcome iOutcome seriesOutcome kChecks seriesChecks argumentChecks lengthChecks
+called K a length e = refused-first length _ (kSteps (a .scaled) (argumentsOf (a .v) (a .re) (a .im)) length) e
+called I a length e = refused-first length _ (visitSteps (visitedBy (a .scaled) false (argumentsOf (a .v) (a .re) (a .im)) length)) e
 
 pub length-refused : (a : Asking) (length : ℕ) → lengthInside length ≡ false → outcomeLine (calledOf a length) ≡ recordOf (refusedOf Length)
 unfolding calledOf

@@ -2,4 +2,3 @@
 pub mod LengthRefused
 pub mod LineFacts
 pub mod AnswerLines
-pub mod Examples

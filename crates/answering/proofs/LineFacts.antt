@@ -1,33 +1,35 @@
 -- The answer line from its parts: by what was parsed, how long it is, into lent bytes, and from the first 57 bytes of a line alone. Assumes nothing.
 use mathlib.Core.Path.{_≡_, refl, sym, ap, _∙_}
-use mathlib.Core.Bool.{Bool, true, false, cond}
-use mathlib.Core.List.{List, [], _++_}
-use Prim.Native.Nat.{ℕ, _+_, _*_, min, _≤_, _<_}
+use mathlib.Core.Bool.{Bool, true, false}
+use mathlib.Core.List.{List}
+use Prim.Native.Nat.{ℕ, _+_, _*_, _≤_}
 use native.Mathlib.Omega.{arith}
-use borrow.Author.Tests.{le-leb, ne-eqb, leb-true, leb-false}
-use lib.Dec.{leb, eqb}
+use borrow.Author.Tests.{le-leb}
 use lib.Ieee.{Float}
-use lib.ListN.{length, take, length-append, length-take}
-use lib.Seq.{take-all}
+use lib.ListN.{length, take}
 use Rattle.refusal.specs.declared.refusal.Refusal.the-variants as refusals
-use Rattle.bessel.specs.declared.answer.Answer.{Answer}
-use Rattle.bessel.specs.declared.classify.Kind.{Kind}
-use Rattle.bessel.specs.declared.classify.Kind.the-variants.{K, I}
-use Rattle.bessel.specs.Answer.{refusedOf}
-use Rattle.bessel.specs.Arguments.{lengthInside}
+use Rattle.call.specs.declared.answer.Answer.{Answer}
+use Rattle.call.specs.declared.kind.Kind.{Kind}
+use Rattle.call.specs.declared.kind.Kind.the-variants.{K, I}
+use Rattle.call.specs.Answer.{refusedOf}
+use Rattle.call.specs.Limits.{lengthInside}
+use Rattle.call.proofs.LimitFacts.{lent}
+use Rattle.frame.specs.declared.asking.Asking.{Asking}
+use Rattle.frame.specs.declared.asking.Parsed.{Parsed}
+use Rattle.frame.specs.declared.asking.Parsed.the-variants.{Asked, Malformed}
+use Rattle.frame.specs.Layout.{floatWidth, recordLength, longestLine}
+use Rattle.frame.specs.Over.{over}
+use Rattle.frame.specs.Asking.{parsedOf}
+use Rattle.frame.specs.Writing.{recordOf, lineOf}
+use Rattle.frame.proofs.AskingFacts.{parsed-kept}
+use Rattle.frame.proofs.WriteFacts.{record-length, line-length, line-most}
 use Rattle.bessel.specs.Outcome.{Outcome}
-use Rattle.bessel.proofs.LengthFacts.{lent}
+use Rattle.bessel.specs.I.{iOutcome}
 use Rattle.bessel.proofs.KernelOutcome as kernel
 use Rattle.bessel.proofs.SeriesOutcome as series
-use Rattle.frames.specs.declared.asking.Asking.{Asking}
-use Rattle.frames.specs.declared.asking.Parsed.{Parsed}
-use Rattle.frames.specs.declared.asking.Parsed.the-variants.{Asked, Malformed}
-use Rattle.frames.specs.Layout.{floatWidth, askingLength, recordLength, longestLine}
-use Rattle.frames.specs.Over.{over}
-use Rattle.frames.specs.Asking.{parsedOf}
-use Rattle.frames.specs.AnswerLine.{recordOf, cellsOf, lineOf, calledAs, calledOf, outcomeOf, outcomeLine, answerLineOf, sizeInto, bytesInto}
-use Rattle.frames.proofs.WriteFacts.{record-length, cells-length, line-length}
-use Rattle.frames.proofs.LengthRefused.{refused-line, length-refused}
+use Rattle.answering.specs.Called.{calledAs, calledOf, outcomeLine}
+use Rattle.answering.specs.Line.{outcomeOf, answerLineOf, sizeInto, bytesInto}
+use Rattle.answering.proofs.LengthRefused.{refused-line, length-refused}
 
 -- ---- by what was parsed
 pub called-line : (o : Outcome) (a : Answer) (cells : List Float) → a ≡ o .answer → cells ≡ o .cells → lineOf a cells ≡ outcomeLine o
@@ -51,18 +53,14 @@ pub into : (d line l out : List ℕ) (n : ℕ) → longestLine ≤ length d → 
 into d line l out n h e f g = let r = roomy d line h in (f ∙ ap length (sym e) ∙ sym (r .0), g ∙ ap (λ (x : List ℕ). over 0 x d) (sym e) ∙ sym (r .1))
 
 -- ---- how long it is
-picked-length : (a : Answer) (cells : List Float) (b : Bool) → length (recordOf a ++ cond b (cellsOf cells) []) ≤ recordLength + length cells * floatWidth
-picked-length a cells true = simp length-append (omega (arith, record-length a, cells-length cells))
-picked-length a cells false = simp length-append (omega (arith, record-length a))
-
 outcome-length : (o : Outcome) → length (outcomeLine o) ≤ recordLength + length (o .cells) * floatWidth
-unfolding outcomeLine lineOf
-outcome-length o = picked-length (o .answer) (o .cells) (eqb (o .answer .number) 0)
+unfolding outcomeLine
+outcome-length o = line-most (o .answer) (o .cells)
 
 called-as-cells : (kind : Kind) (a : Asking) (n : ℕ) → length (calledAs kind a n .cells) ≡ n
-unfolding calledAs
+unfolding calledAs iOutcome
 called-as-cells K a n = kernel.cells-length (a .scaled) (a .v) (a .re) (a .im) n
-called-as-cells I a n = series.cells-length (a .scaled) (a .v) (a .re) (a .im) n
+called-as-cells I a n = series.cells-length (a .scaled) false (a .v) (a .re) (a .im) n
 
 -- a cell's value for each of the 2n cells
 pub called-cells : (a : Asking) (n : ℕ) → length (calledOf a n .cells) ≡ n
@@ -92,20 +90,6 @@ unfolding answerLineOf
 line-bound line = parsed-bound (parsedOf line)
 
 -- ---- a line of another length is malformed whatever it holds, so that the first 57 bytes say all
-pub other-length : (line : List ℕ) → (length line ≡ askingLength → ⊥) → parsedOf line ≡ Malformed
-unfolding parsedOf
-other-length line h = simp (ne-eqb (length line) askingLength h)
-
-kept-if : (line : List ℕ) (b : Bool) → leb (length line) 57 ≡ b → parsedOf (take 57 line) ≡ parsedOf line
-kept-if line true e = ap parsedOf (take-all 57 line (leb-true (length line) 57 e))
-kept-if line false e =
-    let h : 57 < length line = leb-false (length line) 57 e in
-    let n : length (take 57 line) ≡ 57 = length-take 57 line ∙ less (length line) h in
-    other-length (take 57 line) (λ x. omega arith) ∙ sym (other-length line (λ x. omega arith))
-  where
-    less : (m : ℕ) → 57 < m → min 57 m ≡ 57
-    less m h = omega arith
-
 pub kept : (line : List ℕ) → answerLineOf (take 57 line) ≡ answerLineOf line
 unfolding answerLineOf
-kept line = ap (λ (p : Parsed). outcomeLine (outcomeOf p)) (kept-if line (leb (length line) 57) refl)
+kept line = ap (λ (p : Parsed). outcomeLine (outcomeOf p)) (parsed-kept line)

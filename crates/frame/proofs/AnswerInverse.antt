@@ -17,21 +17,16 @@ use Rattle.frame.specs.declared.reading.Record.{Record}
 use Rattle.frame.specs.declared.reading.Reading.the-variants.{Readable}
 use Rattle.frame.specs.Layout.{byteWidth, countWidth, floatWidth, pairWidth, numberAt, zerosAt, longestSumAt, rungsAt, backwardAt, recordLength}
 use Rattle.frame.specs.Digits.{areDigits, spelledOf, fieldOf}
-use Rattle.frame.specs.Writing.{twosComplement, spelledRecord, recordOf, spelledPatterns, cellsOf, lineOf}
+use Rattle.frame.specs.Writing.{twosComplement, spelledRecord, recordOf, spelledPatterns, lineOf}
 use Rattle.frame.specs.Reading.{signedWord, recordAt, restInside, readingOf, cellBitsOf, bitsRead, cellsRead, RecordFits, saidOf, lineAgain}
-use Rattle.frame.proofs.DigitFacts.{digits-append, spelled-digits}
+use Rattle.frame.proofs.DigitFacts.{digits-append}
 use Rattle.frame.proofs.SpellFacts.{spelled-length}
 use Rattle.frame.proofs.FieldFacts.{field-fits, field-again, field-next, field-at}
 use Rattle.frame.proofs.WordFacts.{word-small, word-back, word-again}
-use Rattle.frame.proofs.WriteFacts.{line-refused, line-answered}
+use Rattle.frame.proofs.WriteFacts.{spelled-record-length, spelled-record-digits, patterns-digits, patterns-cells, line-refused, line-answered}
 use Rattle.frame.proofs.ReadFacts.{readable, pairs-inside, none-inside, Taken, taken}
 
 -- ---- patterns, one behind the other
-patterns-digits : (bs : List ℕ) → areDigits (spelledPatterns bs) ≡ true
-unfolding spelledPatterns areDigits
-patterns-digits [] = refl
-patterns-digits (b ∷ bs) = digits-append (spelledOf floatWidth b) (spelledPatterns bs) (spelled-digits floatWidth b) (patterns-digits bs)
-
 patterns-length : (bs : List ℕ) → length (spelledPatterns bs) ≡ length bs * floatWidth
 unfolding spelledPatterns
 patterns-length [] = refl
@@ -50,11 +45,6 @@ patterns-one b = append-nil (spelledOf floatWidth b)
 patterns-first : (b : ℕ) (bs : List ℕ) → spelledPatterns (b ∷ bs) ≡ spelledOf floatWidth b ++ spelledPatterns bs
 unfolding spelledPatterns
 patterns-first b bs = refl
-
-patterns-cells : (xs : List Float) → cellsOf xs ≡ spelledPatterns (map (toBits binary64) xs)
-unfolding cellsOf spelledPatterns
-patterns-cells [] = refl
-patterns-cells (x ∷ xs) = ap (λ (l : List ℕ). spelledOf floatWidth (toBits binary64 x) ++ l) (patterns-cells xs)
 
 -- ---- what was written is read
 module _ (r : Record) (tail : List ℕ) where
@@ -77,16 +67,10 @@ module _ (r : Record) (tail : List ℕ) where
   front = spelledRecord (r .number) (r .zeros) (r .«longest_sum») (r .rungs) (r .backward)
 
   front-length : length front ≡ recordLength
-  unfolding spelledRecord
-  front-length = simp (length-append, spelled-length)
+  front-length = spelled-record-length (r .number) (r .zeros) (r .«longest_sum») (r .rungs) (r .backward)
 
   front-digits : areDigits front ≡ true
-  unfolding spelledRecord
-  front-digits =
-      digits-append q1 _ (spelled-digits byteWidth (r .number))
-      (digits-append q2 _ (spelled-digits countWidth (twosComplement (r .zeros)))
-      (digits-append q3 _ (spelled-digits countWidth (r .«longest_sum»))
-      (digits-append q4 q5 (spelled-digits countWidth (r .rungs)) (spelled-digits countWidth (r .backward)))))
+  front-digits = spelled-record-digits (r .number) (r .zeros) (r .«longest_sum») (r .rungs) (r .backward)
 
   abbrev line : List ℕ
   line = front ++ tail

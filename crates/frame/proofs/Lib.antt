@@ -6,5 +6,6 @@ pub mod FieldFacts
 pub mod WordFacts
 pub mod WriteFacts
 pub mod ReadFacts
+pub mod AskingFacts
 pub mod AskingInverse
 pub mod AnswerInverse

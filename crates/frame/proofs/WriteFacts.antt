@@ -1,23 +1,27 @@
 -- What is written behind what was written before: an asking line and a record field by field, the cells one by one, and how long they are.
 -- Assumes nothing.
 use mathlib.Core.Path.{_≡_, refl, sym, ap, _∙_}
-use mathlib.Core.List.{List, [], _∷_, _++_, append-assoc, append-nil}
+use mathlib.Core.Bool.{Bool, true, false, cond}
+use mathlib.Core.List.{List, [], _∷_, _++_, map, append-assoc, append-nil}
 use Prim.Native.Nat.{ℕ, _+_, _*_, min, _≤_, _<_, zero-le}
 use native.Mathlib.Nat.{add-zero}
 use native.Mathlib.Numerals.{add-one}
 use native.Mathlib.Omega.{arith}
 use borrow.Author.Tests.{eq-eqb, ne-eqb}
+use lib.Dec.{eqb}
 use lib.Ieee.{Float, binary64, toBits}
+use lib.IntN.{ℤ}
 use lib.ListN.{length, take, getD, length-append, length-take}
-use lib.Seq.{take-suc}
+use lib.Seq.{take-at, take-suc}
 use Rattle.call.specs.declared.answer.Answer.{Answer}
 use Rattle.frame.specs.declared.asking.Fields.{Fields}
 use Rattle.frame.specs.Layout.{byteWidth, countWidth, floatWidth, askingLength, recordLength}
-use Rattle.frame.specs.Digits.{spelledOf}
+use Rattle.frame.specs.Digits.{areDigits, spelledOf}
 use Rattle.frame.specs.Over.{over}
 use Rattle.frame.specs.Asking.{askingLineOf}
-use Rattle.frame.specs.Writing.{twosComplement, spelledRecord, recordOf, cellsOf, lineOf}
+use Rattle.frame.specs.Writing.{twosComplement, spelledRecord, recordOf, spelledPatterns, cellsOf, lineOf}
 use Rattle.frame.proofs.OverFacts.{over-over}
+use Rattle.frame.proofs.DigitFacts.{digits-append, spelled-digits}
 use Rattle.frame.proofs.SpellFacts.{spelled-length}
 
 -- q behind p
@@ -53,9 +57,22 @@ module _ (f : Fields) (at : ℕ) (d o1 o2 o3 o4 o5 o6 : List ℕ) where
       w6 ∙ simp append-assoc
 
 -- ---- the record
+module _ (number : ℕ) (zeros : ℤ) (sum rungs backward : ℕ) where
+  pub spelled-record-length : length (spelledRecord number zeros sum rungs backward) ≡ recordLength
+  unfolding spelledRecord
+  spelled-record-length = simp (length-append, spelled-length)
+
+  pub spelled-record-digits : areDigits (spelledRecord number zeros sum rungs backward) ≡ true
+  unfolding spelledRecord
+  spelled-record-digits =
+      digits-append (spelledOf byteWidth number) _ (spelled-digits byteWidth number)
+      (digits-append (spelledOf countWidth (twosComplement zeros)) _ (spelled-digits countWidth (twosComplement zeros))
+      (digits-append (spelledOf countWidth sum) _ (spelled-digits countWidth sum)
+      (digits-append (spelledOf countWidth rungs) (spelledOf countWidth backward) (spelled-digits countWidth rungs) (spelled-digits countWidth backward))))
+
 pub record-length : (a : Answer) → length (recordOf a) ≡ recordLength
-unfolding recordOf spelledRecord
-record-length a = simp (length-append, spelled-length)
+unfolding recordOf
+record-length a = spelled-record-length (a .number) (a .zeros) (a .«longest_sum») (a .rungs) (a .backward)
 
 module _ (a : Answer) (d o1 o2 o3 o4 o5 : List ℕ) (n z s r b : ℕ) where
   pub record-written :
@@ -76,6 +93,16 @@ module _ (a : Answer) (d o1 o2 o3 o4 o5 : List ℕ) (n z s r b : ℕ) where
       w5 ∙ simp (append-assoc, e, f, g, h, i)
 
 -- ---- the cells
+pub patterns-digits : (bs : List ℕ) → areDigits (spelledPatterns bs) ≡ true
+unfolding spelledPatterns areDigits
+patterns-digits [] = refl
+patterns-digits (b ∷ bs) = digits-append (spelledOf floatWidth b) (spelledPatterns bs) (spelled-digits floatWidth b) (patterns-digits bs)
+
+pub patterns-cells : (xs : List Float) → cellsOf xs ≡ spelledPatterns (map (toBits binary64) xs)
+unfolding cellsOf spelledPatterns
+patterns-cells [] = refl
+patterns-cells (x ∷ xs) = ap (λ (l : List ℕ). spelledOf floatWidth (toBits binary64 x) ++ l) (patterns-cells xs)
+
 pub cells-length : (xs : List Float) → length (cellsOf xs) ≡ length xs * floatWidth
 unfolding cellsOf
 cells-length [] = refl
@@ -133,3 +160,28 @@ line-length a cells h =
     ∙ length-append (recordOf a) (cellsOf cells)
     ∙ ap (λ (k : ℕ). k + length (cellsOf cells)) (record-length a)
     ∙ ap (λ (k : ℕ). recordLength + k) (cells-length cells)
+
+-- the record, and no more than the cells behind it
+line-most-if : (a : Answer) (cells : List Float) (b : Bool) → length (recordOf a ++ cond b (cellsOf cells) []) ≤ recordLength + length cells * floatWidth
+line-most-if a cells true = simp length-append (omega (arith, record-length a, cells-length cells))
+line-most-if a cells false = simp length-append (omega (arith, record-length a))
+
+pub line-most : (a : Answer) (cells : List Float) → length (lineOf a cells) ≤ recordLength + length cells * floatWidth
+unfolding lineOf
+line-most a cells = line-most-if a cells (eqb (a .number) 0)
+
+-- every byte is an upper-case digit, so that a newline behind a line ends it
+cells-digits-if : (cells : List Float) (b : Bool) → areDigits (cond b (cellsOf cells) []) ≡ true
+unfolding areDigits
+cells-digits-if cells true = ap areDigits (patterns-cells cells) ∙ patterns-digits (map (toBits binary64) cells)
+cells-digits-if cells false = refl
+
+pub line-digits : (a : Answer) (cells : List Float) → areDigits (lineOf a cells) ≡ true
+unfolding lineOf recordOf
+line-digits a cells =
+    digits-append (recordOf a) (cond (eqb (a .number) 0) (cellsOf cells) []) (spelled-record-digits (a .number) (a .zeros) (a .«longest_sum») (a .rungs) (a .backward)) (cells-digits-if cells (eqb (a .number) 0))
+
+-- the first two digits are the number's
+pub line-number : (a : Answer) (cells : List Float) → take byteWidth (lineOf a cells) ≡ spelledOf byteWidth (a .number)
+unfolding lineOf recordOf spelledRecord
+line-number a cells = let n = spelledOf byteWidth (a .number) in ap (take byteWidth) (append-assoc n _ _) ∙ take-at n _ byteWidth (spelled-length byteWidth (a .number))

@@ -1,8 +1,8 @@
--- `frames::answering::call` meets its contract, kind by kind. Assumes nothing.
+-- `answering::called::call` meets its contract, kind by kind. Assumes nothing.
 use borrow.Author.Needs.{needs}
-use Rattle.frames.specs.AnswerLine.{calledAs, calledOf}
-use Rattle.frames.proofs.answering.call.Statement.{statement}
-use Rattle.frames.proofs.answering.call.Tie as tie
+use Rattle.answering.specs.Called.{calledAs, calledOf}
+use Rattle.answering.proofs.called.call.Statement.{statement}
+use Rattle.answering.proofs.called.call.Tie as tie
 
 enum-told : tie.Need-enum-told
 enum-told c = search needs

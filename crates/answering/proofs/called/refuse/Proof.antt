@@ -1,11 +1,11 @@
--- `frames::answering::refuse` meets its contract: the refusal's record. Assumes nothing.
+-- `answering::called::refuse` meets its contract: the refusal's record. Assumes nothing.
 use mathlib.Core.Path.{refl, ap, _∙_}
 use borrow.Author.Needs.{needs}
-use Rattle.bessel.specs.declared.answer.Answer.{Answer}
-use Rattle.frames.specs.Over.{over}
-use Rattle.frames.specs.AnswerLine.{recordOf}
-use Rattle.frames.proofs.answering.refuse.Statement.{statement}
-use Rattle.frames.proofs.answering.refuse.Tie as tie
+use Rattle.call.specs.declared.answer.Answer.{Answer}
+use Rattle.frame.specs.Over.{over}
+use Rattle.frame.specs.Writing.{recordOf}
+use Rattle.answering.proofs.called.refuse.Statement.{statement}
+use Rattle.answering.proofs.called.refuse.Tie as tie
 
 refused-requires : tie.Need-refused-requires
 refused-requires c κs = search needs

@@ -1,12 +1,12 @@
--- `frames::line::answer_line` meets its contract: by the room, and then by what was parsed. Assumes nothing.
+-- `answering::line::answer_line` meets its contract: by the room, and then by what was parsed. Assumes nothing.
 use mathlib.Core.Path.{refl, sym, _∙_}
 use borrow.Author.Needs.{needs}
 use borrow.Author.Tests.{lt-leb}
-use Rattle.frames.specs.AnswerLine.{sizeInto, bytesInto}
-use Rattle.frames.proofs.WriteFacts.{record-length}
-use Rattle.frames.proofs.LineFacts.{asked-line, malformed-line, into}
-use Rattle.frames.proofs.line.answer_line.Statement.{statement}
-use Rattle.frames.proofs.line.answer_line.Tie as tie
+use Rattle.answering.specs.Line.{sizeInto, bytesInto}
+use Rattle.frame.proofs.WriteFacts.{record-length}
+use Rattle.answering.proofs.LineFacts.{asked-line, malformed-line, into}
+use Rattle.answering.proofs.line.answer_line.Statement.{statement}
+use Rattle.answering.proofs.line.answer_line.Tie as tie
 
 returns : tie.Need-returns
 unfolding sizeInto bytesInto

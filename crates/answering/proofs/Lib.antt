@@ -2,3 +2,4 @@
 pub mod LengthRefused
 pub mod LineFacts
 pub mod AnswerLines
+pub mod Examples

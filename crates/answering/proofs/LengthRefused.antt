@@ -48,9 +48,12 @@ unfolding calledAs kOutcome iOutcome seriesOutcome kChecks seriesChecks argument
 called K a length e = refused-first length _ (kSteps (a .scaled) (argumentsOf (a .v) (a .re) (a .im)) length) e
 called I a length e = refused-first length _ (visitSteps (visitedBy (a .scaled) false (argumentsOf (a .v) (a .re) (a .im)) length)) e
 
-pub length-refused : (a : Asking) (length : ℕ) → lengthInside length ≡ false → outcomeLine (calledOf a length) ≡ recordOf (refusedOf Length)
+pub length-called : (a : Asking) (length : ℕ) → lengthInside length ≡ false → calledOf a length ≡ refusedOutcome Length length
 unfolding calledOf
-length-refused a length e = ap outcomeLine (called (a .kind) a length e) ∙ refused-line Length length
+length-called a length e = called (a .kind) a length e
+
+pub length-refused : (a : Asking) (length : ℕ) → lengthInside length ≡ false → outcomeLine (calledOf a length) ≡ recordOf (refusedOf Length)
+length-refused a length e = ap outcomeLine (length-called a length e) ∙ refused-line Length length
 
 -- above 512 pairs
 pub too-many : (n : ℕ) → 512 < n → lengthInside (n * 2) ≡ false

@@ -170,6 +170,10 @@ pub line-most : (a : Answer) (cells : List Float) → length (lineOf a cells) �
 unfolding lineOf
 line-most a cells = line-most-if a cells (eqb (a .number) 0)
 
+pub line-least : (a : Answer) (cells : List Float) → recordLength ≤ length (lineOf a cells)
+unfolding lineOf
+line-least a cells = simp length-append (omega (arith, record-length a))
+
 -- every byte is an upper-case digit, so that a newline behind a line ends it
 cells-digits-if : (cells : List Float) (b : Bool) → areDigits (cond b (cellsOf cells) []) ≡ true
 unfolding areDigits

@@ -27,7 +27,7 @@ use Rattle.bessel.specs.Outcome.{Outcome}
 use Rattle.bessel.specs.I.{iOutcome}
 use Rattle.bessel.proofs.KernelOutcome as kernel
 use Rattle.bessel.proofs.SeriesOutcome as series
-use Rattle.answering.specs.Called.{calledAs, calledOf, outcomeLine}
+use Rattle.answering.specs.Called.{calledAs, calledOf, outcomeLine, calledLine}
 use Rattle.answering.specs.Line.{outcomeOf, answerLineOf, sizeInto, bytesInto}
 use Rattle.answering.proofs.LengthRefused.{refused-line, length-refused}
 
@@ -80,9 +80,12 @@ asked-bound a true e =
     omega (arith, outcome-length (calledOf a (a .count * 2)), called-cells a (a .count * 2))
 asked-bound a false e = omega (arith, ap length (length-refused a (a .count * 2) e), record-length (refusedOf refusals.Length))
 
+pub called-bound : (a : Asking) → length (calledLine a) ≤ longestLine
+called-bound a = asked-bound a (lengthInside (a .count * 2)) refl
+
 parsed-bound : (p : Parsed) → length (outcomeLine (outcomeOf p)) ≤ longestLine
 unfolding outcomeOf
-parsed-bound (Asked a) = asked-bound a (lengthInside (a .count * 2)) refl
+parsed-bound (Asked a) = called-bound a
 parsed-bound Malformed = omega (arith, ap length (refused-line refusals.Malformed 0), record-length (refusedOf refusals.Malformed))
 
 pub line-bound : (line : List ℕ) → length (answerLineOf line) ≤ longestLine

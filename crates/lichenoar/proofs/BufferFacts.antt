@@ -8,57 +8,55 @@ use borrow.Rule.Slice.PartMut.{midOf, putMid}
 use lib.ListN.{length, take, drop, set, length-append}
 use lib.Seq.{take-at, take-all, take-append-le, take-suc-set, take-add, length-take-le}
 use Rattle.laws.proofs.Part.{rest-length, put-rest}
-use Rattle.frames.specs.Over.{over}
-use Rattle.frames.specs.AnswerLine.{answerLineOf, sizeInto, bytesInto}
-use Rattle.frames.proofs.OverFacts.{over-length}
-use Rattle.frames.proofs.LineFacts.{roomy, line-bound}
+use Rattle.frame.specs.Layout.{longestLine}
+use Rattle.frame.specs.Over.{over}
+use Rattle.frame.proofs.OverFacts.{over-length}
 use Rattle.lichenoar.specs.Lines.{newline}
-use Rattle.lichenoar.specs.Feed.{mostHeld, mostRoom, closedOf}
+use Rattle.lichenoar.specs.Feed.{mostHeld, mostRoom, withLine}
 
--- ---- a line closed
-module _ (d line ys : List ℕ) (f n : ℕ) (room : f + mostRoom ≤ length d) (en : n ≡ sizeInto (length (midOf f (length d - f) d)) line) (ey : ys ≡ bytesInto (midOf f (length d - f) d) line) where
+-- ---- a line written behind what is written, and its newline
+pub record Closing (d l buffer : List ℕ) (f n : ℕ) : Type 0 where
+  pub most : n ≤ longestLine
+  pub long : length buffer ≡ length d
+  pub closed : take (f + n + 1) (set buffer (f + n) newline) ≡ withLine l (take f d)
+
+module _ (d l ys : List ℕ) (f n : ℕ) (room : f + mostRoom ≤ length d) (most : length l ≤ longestLine) (en : n ≡ length l) (ey : ys ≡ over 0 l (midOf f (length d - f) d)) where
   abbrev lent : List ℕ
   lent = midOf f (length d - f) d
 
   lent-length : length lent ≡ length d - f
   lent-length = rest-length f d
 
-  wide : 16402 ≤ length lent
-  wide = omega (arith, lent-length)
-
-  pub size-is : n ≡ length (answerLineOf line)
-  size-is = en ∙ roomy lent line wide .0
-
-  pub size-most : n ≤ 16402
-  size-most = omega (arith, size-is, line-bound line)
-
-  bytes-are : ys ≡ over 0 (answerLineOf line) lent
-  bytes-are = ey ∙ roomy lent line wide .1
-
   abbrev buffer : List ℕ
   buffer = putMid f (length d - f) d ys
 
   ys-length : length ys ≡ length d - f
-  ys-length = ap length bytes-are ∙ over-length 0 (answerLineOf line) [] lent (omega (arith, size-is, size-most, wide)) ∙ lent-length
+  ys-length = ap length ey ∙ over-length 0 l [] lent (omega (arith, most, lent-length)) ∙ lent-length
 
-  front : length (take f d ++ answerLineOf line) ≡ f + n
-  front = length-append (take f d) (answerLineOf line) ∙ ap (λ (k : ℕ). k + length (answerLineOf line)) (length-take-le f d (omega arith)) ∙ ap (λ (k : ℕ). f + k) (sym size-is)
+  front : length (take f d ++ l) ≡ f + n
+  front = length-append (take f d) l ∙ ap (λ (k : ℕ). k + length l) (length-take-le f d (omega arith)) ∙ ap (λ (k : ℕ). f + k) (sym en)
 
-  split : buffer ≡ (take f d ++ answerLineOf line) ++ drop (0 + length (answerLineOf line)) lent
+  split : buffer ≡ (take f d ++ l) ++ drop (0 + length l) lent
   unfolding over
-  split = put-rest f d ys ∙ ap (λ (l : List ℕ). take f d ++ l) bytes-are ∙ sym (append-assoc (take f d) (answerLineOf line) (drop (0 + length (answerLineOf line)) lent))
+  split = put-rest f d ys ∙ ap (λ (x : List ℕ). take f d ++ x) ey ∙ sym (append-assoc (take f d) l (drop (0 + length l) lent))
 
-  pub buffer-length : length buffer ≡ length d
+  buffer-length : length buffer ≡ length d
   buffer-length = ap length (put-rest f d ys) ∙ length-append (take f d) ys ∙ ap (λ (k : ℕ). k + length ys) (length-take-le f d (omega arith)) ∙ omega (arith, ys-length)
 
-  pub closed : take (f + n + 1) (set buffer (f + n) newline) ≡ closedOf line (take f d)
-  unfolding closedOf
-  closed =
+  line-closed : take (f + n + 1) (set buffer (f + n) newline) ≡ withLine l (take f d)
+  line-closed =
       ap (λ (k : ℕ). take k (set buffer (f + n) newline)) (add-one (f + n))
-      ∙ take-suc-set buffer (f + n) newline (omega (arith, buffer-length, size-most))
-      ∙ ap (λ (l : List ℕ). take (f + n) l ++ (newline ∷ [])) split
-      ∙ ap (λ (l : List ℕ). l ++ (newline ∷ [])) (take-at (take f d ++ answerLineOf line) (drop (0 + length (answerLineOf line)) lent) (f + n) front)
-      ∙ append-assoc (take f d) (answerLineOf line) (newline ∷ [])
+      ∙ take-suc-set buffer (f + n) newline (omega (arith, buffer-length, en, most))
+      ∙ ap (λ (x : List ℕ). take (f + n) x ++ (newline ∷ [])) split
+      ∙ ap (λ (x : List ℕ). x ++ (newline ∷ [])) (take-at (take f d ++ l) (drop (0 + length l) lent) (f + n) front)
+      ∙ append-assoc (take f d) l (newline ∷ [])
+
+  pub closing : Closing d l buffer f n
+  closing = record { most = omega (arith, en, most); long = buffer-length; closed = line-closed }
+
+-- the lent rest of the bytes has room for any answer line
+pub lent-room : (d : List ℕ) (f : ℕ) → f + mostRoom ≤ length d → longestLine ≤ length (midOf f (length d - f) d)
+lent-room d f h = omega (arith, rest-length f d)
 
 -- ---- a byte kept
 pub keeps : (line : List ℕ) (held b : ℕ) → held < mostHeld → length line ≡ mostHeld → take (held + 1) (set line held b) ≡ take mostHeld (take held line ++ (b ∷ []))

@@ -6,7 +6,7 @@ use Prim.Native.Nat.{ℕ}
 use borrow.Author.Tests.{eq-eqb, ne-eqb}
 use lib.Dec.{eqb}
 use lib.ListN.{take}
-use Rattle.frames.specs.AnswerLine.{answerLineOf}
+use Rattle.answering.specs.Line.{answerLineOf}
 use Rattle.lichenoar.specs.Lines.{newline}
 use Rattle.lichenoar.specs.Feed.{mostHeld, Feed, closedOf, stepIf, stepOf, fedOf}
 

@@ -1,17 +1,24 @@
 -- A frame and its newline taken at once: what the bytes one by one come to. Assumes nothing.
 use mathlib.Core.Path.{_≡_, refl, sym, ap, _∙_, subst}
-use mathlib.Core.Bool.{Bool, true, false, _&&_}
+use mathlib.Core.Bool.{Bool, true, false, cond, _&&_}
 use mathlib.Core.List.{List, [], _∷_, _++_, append-assoc, append-nil}
 use Prim.Native.Nat.{ℕ, zero, suc, _+_, _-_, _≤_, _<_}
 use native.Mathlib.Omega.{arith}
-use borrow.Author.Tests.{le-leb, lt-leb, eq-eqb, ne-eqb}
-use lib.Dec.{T, eqb, leb, eqb→eq, leb→le}
+use borrow.Author.Tests.{le-leb, lt-leb, eq-eqb, ne-eqb, leb-true, eqb-true}
+use lib.Dec.{T, eqb, leb}
 use lib.Ieee.Fits.{and-l, and-r}
 use lib.ListN.{length, take, drop, getD, length-append, length-drop}
 use lib.Seq.{take-all, take-suc, take-add, getD-drop, length-take-le, drop-drop}
-use Rattle.frames.specs.Digits.{isDigit, areDigits}
+use Rattle.frame.specs.declared.asking.Asking.{Asking}
+use Rattle.frame.specs.declared.asking.Parsed.the-variants.{Asked, Malformed}
+use Rattle.frame.specs.Digits.{isDigit, areDigits}
+use Rattle.frame.specs.Asking.{parsedOf}
+use Rattle.frame.proofs.DigitFacts.{both}
+use Rattle.frame.proofs.AskingFacts.{asked-framed}
+use Rattle.answering.specs.Called.{calledLine}
+use Rattle.answering.proofs.LineFacts.{asked-line}
 use Rattle.lichenoar.specs.Lines.{newline}
-use Rattle.lichenoar.specs.Feed.{mostHeld, Feed, closedOf, stepOf, fedOf, feedOf, frameAhead}
+use Rattle.lichenoar.specs.Feed.{mostHeld, Feed, withLine, closedOf, stepOf, fedOf, feedOf, frameAhead}
 use Rattle.lichenoar.proofs.FeedFacts.{feed, step-newline, step-other, fed-append, fed-snoc}
 
 -- ---- digits are held one by one
@@ -37,15 +44,19 @@ pub record Ahead (chunk : List ℕ) (at : ℕ) : Type 0 where
   pub ended : getD chunk (at + 56) 0 ≡ newline
   pub digits : T (areDigits (take 56 (drop at chunk)))
 
-pub ahead : (chunk : List ℕ) (at : ℕ) → frameAhead chunk at ≡ true → Ahead chunk at
+-- what holds where a frame comes next, and what it asks
+ahead-if :
+    (chunk : List ℕ) (at : ℕ) (a : Asking) (b : Bool) → (leb (at + 57) (length chunk) && eqb (getD chunk (at + 56) 0) newline) ≡ b →
+    cond b (parsedOf (take 56 (drop at chunk))) Malformed ≡ Asked a → Ahead chunk at × (parsedOf (take 56 (drop at chunk)) ≡ Asked a)
+ahead-if chunk at a true k e =
+    let t = both (leb (at + 57) (length chunk)) (eqb (getD chunk (at + 56) 0) newline) k in
+    let d = asked-framed (take 56 (drop at chunk)) a e .1 in
+    (record { room = leb-true (at + 57) (length chunk) (t .0); ended = eqb-true (getD chunk (at + 56) 0) newline (t .1); digits = subst T (sym d) tt }, e)
+ahead-if chunk at a false k e = absurd (let z : _≡_ {A = ℕ} 0 1 = cc in omega arith)
+
+pub ahead : (chunk : List ℕ) (at : ℕ) (a : Asking) → frameAhead chunk at ≡ Asked a → Ahead chunk at × (parsedOf (take 56 (drop at chunk)) ≡ Asked a)
 unfolding frameAhead
-ahead chunk at e =
-    let p = leb (at + 57) (length chunk) in
-    let q = eqb (getD chunk (at + 56) 0) newline in
-    let r = areDigits (take 56 (drop at chunk)) in
-    let t : T (p && (q && r)) = subst T (sym e) tt in
-    let u : T (q && r) = and-r p (q && r) t in
-    record { room = leb→le (at + 57) (length chunk) (and-l p (q && r) t); ended = eqb→eq (getD chunk (at + 56) 0) newline (and-l q r u); digits = and-r q r u }
+ahead chunk at a e = ahead-if chunk at a (leb (at + 57) (length chunk) && eqb (getD chunk (at + 56) 0) newline) refl e
 
 module _ (chunk : List ℕ) (at : ℕ) (a : Ahead chunk at) where
   left : 57 ≤ length (drop at chunk)
@@ -76,33 +87,36 @@ taken-more l from at next h k =
     ∙ ap (λ (m : ℕ). take m (drop from l)) all
 
 -- ---- the tests in their order
-pub not-long : (chunk : List ℕ) (at : ℕ) → length chunk - at < 57 → frameAhead chunk at ≡ false
+pub not-long : (chunk : List ℕ) (at : ℕ) → length chunk - at < 57 → frameAhead chunk at ≡ Malformed
 unfolding frameAhead
 not-long chunk at h = simp (lt-leb (at + 57) (length chunk) (omega arith))
 
-pub not-ended : (chunk : List ℕ) (at : ℕ) → (getD chunk (at + 56) 0 ≡ newline → ⊥) → frameAhead chunk at ≡ false
+pub not-ended : (chunk : List ℕ) (at : ℕ) → (getD chunk (at + 56) 0 ≡ newline → ⊥) → frameAhead chunk at ≡ Malformed
 unfolding frameAhead
-not-ended chunk at h = ap (λ (b : Bool). leb (at + 57) (length chunk) && (b && areDigits (take 56 (drop at chunk)))) (ne-eqb (getD chunk (at + 56) 0) newline h) ∙ none (leb (at + 57) (length chunk))
+not-ended chunk at h =
+    ap (λ (b : Bool). cond (leb (at + 57) (length chunk) && b) (parsedOf (take 56 (drop at chunk))) Malformed) (ne-eqb (getD chunk (at + 56) 0) newline h)
+    ∙ ap (λ (b : Bool). cond b (parsedOf (take 56 (drop at chunk))) Malformed) (none (leb (at + 57) (length chunk)))
   where
     none : (b : Bool) → (b && false) ≡ false
     none true = refl
     none false = refl
 
-pub by-digits : (chunk : List ℕ) (at n : ℕ) (b : Bool) → b ≡ areDigits (take n (drop at chunk)) → n ≡ 56 → 57 ≤ length chunk - at → at < length chunk → getD chunk (at + 56) 0 ≡ newline → b ≡ frameAhead chunk at
+pub by-parsing : (chunk : List ℕ) (at n : ℕ) → n ≡ 56 → 57 ≤ length chunk - at → at < length chunk → getD chunk (at + 56) 0 ≡ newline → parsedOf (take n (drop at chunk)) ≡ frameAhead chunk at
 unfolding frameAhead
-by-digits chunk at n b e m h l g =
-    e
-    ∙ ap (λ (k : ℕ). areDigits (take k (drop at chunk))) m
-    ∙ sym (ap (λ (t : Bool). t && (eqb (getD chunk (at + 56) 0) newline && areDigits (take 56 (drop at chunk)))) (le-leb (at + 57) (length chunk) (omega arith)) ∙ ap (λ (t : Bool). t && areDigits (take 56 (drop at chunk))) (eq-eqb (getD chunk (at + 56) 0) newline g))
+by-parsing chunk at n m h l g =
+    ap (λ (k : ℕ). parsedOf (take k (drop at chunk))) m
+    ∙ sym (simp (le-leb (at + 57) (length chunk) (omega arith), eq-eqb (getD chunk (at + 56) 0) newline g))
 
 -- ---- a frame closed where it stands, and a byte
-pub frame-taken : (chunk line out w : List ℕ) (at held filled m n : ℕ) → Ahead chunk at → held ≡ 0 → m ≡ 56 → n ≡ 57 → w ≡ closedOf (take 56 (take m (drop at chunk))) (take filled out) → feed (take held line) w ≡ fedOf (feedOf line held out filled) (take n (drop at chunk))
-frame-taken chunk line out w at held filled m n a z p q e =
+pub frame-taken :
+    (chunk line out w : List ℕ) (at held filled n : ℕ) (a : Asking) → Ahead chunk at → parsedOf (take 56 (drop at chunk)) ≡ Asked a → held ≡ 0 → n ≡ 57 → w ≡ withLine (calledLine a) (take filled out) →
+    feed (take held line) w ≡ fedOf (feedOf line held out filled) (take n (drop at chunk))
+unfolding closedOf
+frame-taken chunk line out w at held filled n a h p z q e =
     let D = take 56 (drop at chunk) in
-    let same : take 56 (take m (drop at chunk)) ≡ D = ap (λ (k : ℕ). take 56 (take k (drop at chunk))) p ∙ take-all 56 D (omega (arith, frame-length chunk at a)) in
     ap (λ (k : ℕ). feed (take k line) w) z
-    ∙ ap (feed []) (e ∙ ap (λ (l : List ℕ). closedOf l (take filled out)) same)
-    ∙ sym (frame-fed chunk at a (take filled out))
+    ∙ ap (feed []) (e ∙ ap (λ (l : List ℕ). withLine l (take filled out)) (sym (asked-line D a p)))
+    ∙ sym (frame-fed chunk at h (take filled out))
     ∙ sym (ap (λ (k : ℕ). fedOf (feed (take k line) (take filled out)) (take 57 (drop at chunk))) z)
     ∙ sym (ap (λ (k : ℕ). fedOf (feedOf line held out filled) (take k (drop at chunk))) q)
 

@@ -5,8 +5,8 @@ use mathlib.Core.List.{List, [], _∷_, _++_, append-assoc, append-nil}
 use Prim.Native.Nat.{ℕ, zero, suc}
 use lib.Dec.{eqb}
 use lib.ListN.{take}
-use Rattle.frames.specs.AnswerLine.{answerLineOf}
-use Rattle.frames.proofs.LineFacts.{kept}
+use Rattle.answering.specs.Line.{answerLineOf}
+use Rattle.answering.proofs.LineFacts.{kept}
 use Rattle.lichenoar.specs.Lines.{newline, lastOf, linesFrom, linesOf, answersOf, outputOf}
 use Rattle.lichenoar.specs.Feed.{mostHeld, Feed, closedOf, stepIf, stepOf, fedOf, endedFrom, endedOf}
 use Rattle.lichenoar.proofs.FeedFacts.{feed, fed-append, flushed}

@@ -1,12 +1,15 @@
--- The input byte by byte, cut anywhere: what is held of the line that is being read, never more than 57 bytes, and what is written. Definitions only.
-use mathlib.Core.Bool.{Bool, true, false, _&&_}
+-- The input byte by byte, cut anywhere: what is held of the line that is being read, never more than 57 bytes, and what is written.
+-- Definitions only.
+use mathlib.Core.Bool.{Bool, true, false, cond, _&&_}
 use mathlib.Core.List.{List, [], _∷_, _++_}
 use Prim.Native.Nat.{ℕ, _+_, _≤_}
 use mathlib.Core.Path.{_≡_}
 use lib.Dec.{eqb, leb}
 use lib.ListN.{length, take, drop, getD}
-use Rattle.frames.specs.Digits.{areDigits}
-use Rattle.frames.specs.AnswerLine.{answerLineOf}
+use Rattle.frame.specs.declared.asking.Parsed.{Parsed}
+use Rattle.frame.specs.declared.asking.Parsed.the-variants.{Malformed}
+use Rattle.frame.specs.Asking.{parsedOf}
+use Rattle.answering.specs.Line.{answerLineOf}
 use Rattle.lichenoar.specs.Lines.{newline}
 
 -- one byte more than a frame has: a line that is as long or longer is malformed, whatever follows
@@ -21,8 +24,12 @@ pub record Feed : Type 0 where
   pub held : List ℕ
   pub written : List ℕ
 
+-- a line and its newline behind what is written
+abbrev pub withLine : List ℕ → List ℕ → List ℕ
+withLine line written = written ++ (line ++ (newline ∷ []))
+
 unfoldable pub closedOf : List ℕ → List ℕ → List ℕ
-closedOf held written = written ++ (answerLineOf held ++ (newline ∷ []))
+closedOf held written = withLine (answerLineOf held) written
 
 unfoldable pub stepIf : Bool → Feed → ℕ → Feed
 stepIf true s b = record { held = []; written = closedOf (s .held) (s .written) }
@@ -52,6 +59,6 @@ pub record Within (line : List ℕ) (held : ℕ) (out : List ℕ) (filled : ℕ)
   pub few : held ≤ mostHeld
   pub room : filled ≤ length out
 
--- from an index on: 56 digits, and a newline behind them
-unfoldable pub frameAhead : List ℕ → ℕ → Bool
-frameAhead chunk at = leb (at + 57) (length chunk) && (eqb (getD chunk (at + 56) 0) newline && areDigits (take 56 (drop at chunk)))
+-- from an index on: what 56 bytes ask, where a newline stands behind them
+unfoldable pub frameAhead : List ℕ → ℕ → Parsed
+frameAhead chunk at = cond (leb (at + 57) (length chunk) && eqb (getD chunk (at + 56) 0) newline) (parsedOf (take 56 (drop at chunk))) Malformed

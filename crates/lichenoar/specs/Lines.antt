@@ -3,7 +3,7 @@ use mathlib.Core.Bool.{cond}
 use mathlib.Core.List.{List, [], _∷_, _++_}
 use Prim.Native.Nat.{ℕ}
 use lib.Dec.{eqb}
-use Rattle.frames.specs.AnswerLine.{answerLineOf}
+use Rattle.answering.specs.Line.{answerLineOf}
 
 abbrev pub newline : ℕ
 newline = 10

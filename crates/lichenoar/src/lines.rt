@@ -4,10 +4,14 @@ ghost use mathlib.Core.Path.{_≡_};
 ghost use mathlib.Core.List.{[], _∷_, _++_};
 ghost use Prim.Native.Nat.{_+_, _-_, _≤_, _<_};
 ghost use lib.ListN.{length, take, drop};
-ghost use Rattle.lichenoar.specs.Feed.{mostHeld, mostRoom, closedOf, stepOf, fedOf, feedOf, Within, frameAhead};
-use frames::digits::are_digits;
-use frames::layout::ASKING_LENGTH;
-use frames::line::answer_line;
+ghost use Rattle.answering.specs.Called.{calledLine};
+ghost use Rattle.lichenoar.specs.Feed.{mostHeld, mostRoom, withLine, closedOf, stepOf, fedOf, feedOf, Within, frameAhead};
+use answering::called::answer_asking;
+use answering::line::answer_line;
+use frame::asking::Asking;
+use frame::asking::Parsed;
+use frame::asking::parse;
+use frame::layout::ASKING_LENGTH;
 
 const NEWLINE: u8 = 10;
 
@@ -32,7 +36,8 @@ pub struct Progress {
 
 pub fn close_line(line: &[u8], held: usize, out: &mut [u8], filled: usize) -> usize
     requires { ⌜ (held ≤ length (now line)) × (filled + mostRoom ≤ length (now out)) ⌝ }
-    ensures { λ r. ⌜ (r ≤ length (now (out .exit))) × (take r (now (out .exit)) ≡ closedOf (take held (now (line .entry))) (take filled (now (out .entry)))) ⌝ }
+    ensures { λ r. ⌜ (r ≤ length (now (out .exit)))
+        × (take r (now (out .exit)) ≡ closedOf (take held (now (line .entry))) (take filled (now (out .entry)))) ⌝ }
 {
     let n = answer_line(&line[0..held], &mut out[filled..]);
     let end = filled + n;
@@ -40,9 +45,22 @@ pub fn close_line(line: &[u8], held: usize, out: &mut [u8], filled: usize) -> us
     end + 1
 }
 
+// The same of a line that was parsed where it stands.
+fn close_frame(asking: Asking, out: &mut [u8], filled: usize) -> usize
+    requires { ⌜ filled + mostRoom ≤ length (now out) ⌝ }
+    ensures { λ r. ⌜ (r ≤ length (now (out .exit)))
+        × (take r (now (out .exit)) ≡ withLine (calledLine asking) (take filled (now (out .entry)))) ⌝ }
+{
+    let n = answer_asking(asking, &mut out[filled..]);
+    let end = filled + n;
+    out[end] = NEWLINE;
+    end + 1
+}
+
 fn keep_byte(b: u8, line: &mut [u8], held: usize) -> usize
     requires { ⌜ (length (now line) ≡ mostHeld) × (held ≤ mostHeld) ⌝ }
-    ensures { λ r. ⌜ (r ≤ mostHeld) × (take r (now (line .exit)) ≡ take mostHeld (take held (now (line .entry)) ++ (b ∷ []))) ⌝ }
+    ensures { λ r. ⌜ (r ≤ mostHeld)
+        × (take r (now (line .exit)) ≡ take mostHeld (take held (now (line .entry)) ++ (b ∷ []))) ⌝ }
 {
     if held < MOST_HELD {
         line[held] = b;
@@ -53,7 +71,9 @@ fn keep_byte(b: u8, line: &mut [u8], held: usize) -> usize
 
 fn take_byte(b: u8, line: &mut [u8], held: usize, out: &mut [u8], filled: usize) -> Place
     requires { ⌜ (length (now line) ≡ mostHeld) × (held ≤ mostHeld) × (filled + mostRoom ≤ length (now out)) ⌝ }
-    ensures { λ r. ⌜ Within (now (line .exit)) (r .held) (now (out .exit)) (r .filled) × (feedOf (now (line .exit)) (r .held) (now (out .exit)) (r .filled) ≡ stepOf (feedOf (now (line .entry)) held (now (out .entry)) filled) b) ⌝ }
+    ensures { λ r. ⌜ Within (now (line .exit)) (r .held) (now (out .exit)) (r .filled)
+        × (feedOf (now (line .exit)) (r .held) (now (out .exit)) (r .filled)
+        ≡ stepOf (feedOf (now (line .entry)) held (now (out .entry)) filled) b) ⌝ }
 {
     if b == NEWLINE {
         let end = close_line(line, held, out, filled);
@@ -68,18 +88,18 @@ fn take_byte(b: u8, line: &mut [u8], held: usize, out: &mut [u8], filled: usize)
     }
 }
 
-// Whether a frame's digits and a newline come next: then the line need not be held, and is answered where it stands.
-fn frame_ahead(chunk: &[u8], at: usize) -> bool
+// What is asked by the next line where a frame and its newline come next: then the line need not be held, and is answered at once.
+fn frame_ahead(chunk: &[u8], at: usize) -> Parsed
     requires { ⌜ at < length (now chunk) ⌝ }
     ensures { λ r. ⌜ r ≡ frameAhead (now (chunk .entry)) at ⌝ }
 {
     if chunk.len() - at < LINE_LENGTH {
-        return false;
+        return Parsed::Malformed;
     }
     if chunk[at + ASKING_LENGTH] != NEWLINE {
-        return false;
+        return Parsed::Malformed;
     }
-    are_digits(&chunk[at..at + ASKING_LENGTH])
+    parse(&chunk[at..at + ASKING_LENGTH])
 }
 
 // A whole frame with its newline where nothing is held, and else one byte.
@@ -91,12 +111,20 @@ fn take_some(
     out: &mut [u8],
     filled: usize,
 ) -> Progress
-    requires { ⌜ (at < length (now chunk)) × (length (now line) ≡ mostHeld) × (held ≤ mostHeld) × (filled + mostRoom ≤ length (now out)) ⌝ }
-    ensures { λ r. ⌜ (at < r .at) × (r .at ≤ length (now (chunk .entry))) × Within (now (line .exit)) (r .held) (now (out .exit)) (r .filled) × (feedOf (now (line .exit)) (r .held) (now (out .exit)) (r .filled) ≡ fedOf (feedOf (now (line .entry)) held (now (out .entry)) filled) (take (r .at - at) (drop at (now (chunk .entry))))) ⌝ }
+    requires { ⌜ (at < length (now chunk))
+        × (length (now line) ≡ mostHeld)
+        × (held ≤ mostHeld)
+        × (filled + mostRoom ≤ length (now out)) ⌝ }
+    ensures { λ r. ⌜ (at < r .at)
+        × (r .at ≤ length (now (chunk .entry)))
+        × Within (now (line .exit)) (r .held) (now (out .exit)) (r .filled)
+        × (feedOf (now (line .exit)) (r .held) (now (out .exit)) (r .filled)
+        ≡ fedOf (feedOf (now (line .entry)) held (now (out .entry)) filled) (take (r .at - at) (drop at (now (chunk .entry))))) ⌝ }
 {
     if held == 0 {
-        if frame_ahead(chunk, at) {
-            let end = close_line(&chunk[at..at + ASKING_LENGTH], ASKING_LENGTH, out, filled);
+        let ahead = frame_ahead(chunk, at);
+        if let Parsed::Asked(asking) = ahead {
+            let end = close_frame(asking, out, filled);
             return Progress {
                 at: at + LINE_LENGTH,
                 held,
@@ -114,8 +142,15 @@ fn take_some(
 
 // Takes the bytes of a chunk from an index on, until none is left or the room might not do for another answer line.
 pub fn advance(chunk: &[u8], from: usize, line: &mut [u8], held: usize, out: &mut [u8]) -> Progress
-    requires { ⌜ (from < length (now chunk)) × (length (now line) ≡ mostHeld) × (held ≤ mostHeld) × (mostRoom ≤ length (now out)) ⌝ }
-    ensures { λ r. ⌜ (from < r .at) × (r .at ≤ length (now (chunk .entry))) × Within (now (line .exit)) (r .held) (now (out .exit)) (r .filled) × (feedOf (now (line .exit)) (r .held) (now (out .exit)) (r .filled) ≡ fedOf (feedOf (now (line .entry)) held (now (out .entry)) 0) (take (r .at - from) (drop from (now (chunk .entry))))) ⌝ }
+    requires { ⌜ (from < length (now chunk))
+        × (length (now line) ≡ mostHeld)
+        × (held ≤ mostHeld)
+        × (mostRoom ≤ length (now out)) ⌝ }
+    ensures { λ r. ⌜ (from < r .at)
+        × (r .at ≤ length (now (chunk .entry)))
+        × Within (now (line .exit)) (r .held) (now (out .exit)) (r .filled)
+        × (feedOf (now (line .exit)) (r .held) (now (out .exit)) (r .filled)
+        ≡ fedOf (feedOf (now (line .entry)) held (now (out .entry)) 0) (take (r .at - from) (drop from (now (chunk .entry))))) ⌝ }
 {
     let mut at = from;
     let mut kept = held;

@@ -18,7 +18,9 @@ pub struct Turn {
 // A chunk's answers are written when the chunk is done, and before that whenever the room runs short.
 fn consume(chunk: &[u8], line: &mut [u8], held: usize, out: &mut [u8]) -> Turn
     requires { ⌜ (length (now line) ≡ mostHeld) × (held ≤ mostHeld) × (mostRoom ≤ length (now out)) ⌝ }
-    ensures { λ r. ⌜ (r .held ≤ mostHeld) × (r .going ≡ true → take (r .held) (now (line .exit)) ≡ fedOf (feedOf (now (line .entry)) held (now (out .entry)) 0) (now (chunk .entry)) .held) ⌝ }
+    ensures { λ r. ⌜ (r .held ≤ mostHeld)
+        × (r .going ≡ true
+        → take (r .held) (now (line .exit)) ≡ fedOf (feedOf (now (line .entry)) held (now (out .entry)) 0) (now (chunk .entry)) .held) ⌝ }
 {
     let mut at = 0;
     let mut kept = held;

@@ -1,9 +1,9 @@
 -- `lichenoar::lines::frame_ahead` meets its contract, test by test. Assumes nothing.
-use mathlib.Core.Path.{sym}
+use mathlib.Core.Path.{sym, _∙_}
 use Prim.Native.Nat.{_+_, _-_}
 use native.Mathlib.Omega.{arith}
+use Rattle.lichenoar.proofs.FrameFacts.{not-long, not-ended, by-parsing}
 use borrow.Author.Needs.{needs}
-use Rattle.lichenoar.proofs.FrameFacts.{not-long, not-ended, by-digits}
 use Rattle.lichenoar.proofs.lines.frame_ahead.Statement.{statement}
 use Rattle.lichenoar.proofs.lines.frame_ahead.Tie as tie
 
@@ -22,27 +22,40 @@ shared-slice-read-if2 c = search needs
 returns-2 : tie.Need-returns-2
 returns-2 c = sym (not-ended _ _ (c .if2 .taken))
 
-add-are-digits : tie.Need-add-are-digits
-add-are-digits c = search needs
+add-parse : tie.Need-add-parse
+add-parse c = search needs
 
-sub-are-digits : tie.Need-sub-are-digits
-sub-are-digits c = search needs
+sub-parse : tie.Need-sub-parse
+sub-parse c = search needs
 
-part-are-digits-start : tie.Need-part-are-digits-start
-part-are-digits-start c = search needs
+part-parse-start : tie.Need-part-parse-start
+part-parse-start c = search needs
 
-part-are-digits-end : tie.Need-part-are-digits-end
-part-are-digits-end c = search needs
+part-parse-end : tie.Need-part-parse-end
+part-parse-end c = search needs
 
-are-digits-requires : tie.Need-are-digits-requires
-are-digits-requires c κs = search needs
+parse-requires : tie.Need-parse-requires
+parse-requires c κs = search needs
 
 returns-3 : tie.Need-returns-3
 returns-3 c =
     let i = c .before .before in
     let j = i .before .before in
     let s = j .before .before in
-    by-digits (s .args .chunk .now) (s .args .at) (s .args .at + 56 - s .args .at) _ (c .are-digits .ensures) (omega arith) (j .if1 .left) (s .pre) (i .if2 .left)
+    c .parse .ensures ∙ by-parsing (s .args .chunk .now) (s .args .at) (s .args .at + 56 - s .args .at) (omega arith) (j .if1 .left) (s .pre) (i .if2 .left)
 
 pub frame-ahead-spec : {M : Type 1} → statement M
-frame-ahead-spec = tie.close (tie.spec sub-if1 returns add-if2 shared-slice-read-if2 returns-2 add-are-digits sub-are-digits part-are-digits-start part-are-digits-end are-digits-requires returns-3)
+frame-ahead-spec =
+    tie.close
+    (tie.spec
+    sub-if1
+    returns
+    add-if2
+    shared-slice-read-if2
+    returns-2
+    add-parse
+    sub-parse
+    part-parse-start
+    part-parse-end
+    parse-requires
+    returns-3)

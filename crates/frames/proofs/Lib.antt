@@ -1,9 +1,0 @@
--- What the functions rest on, and what is shown of answer lines besides.
-pub mod OverFacts
-pub mod DigitFacts
-pub mod SpellFacts
-pub mod WriteFacts
-pub mod LengthRefused
-pub mod LineFacts
-pub mod AnswerLines
-pub mod Examples

@@ -1,6 +1,0 @@
--- The definitions, by topic.
-pub mod Layout
-pub mod Digits
-pub mod Over
-pub mod Asking
-pub mod AnswerLine

@@ -16,9 +16,11 @@ use Rattle.laws.proofs.Relative.{nonnegative, nonnegative-finite}
 use Rattle.laws.proofs.Bound.{Up, Lo, Span, up-test, lo-test, up-of, lo-of, lo-at, up-of-le, lo-of-le, up-weaken, lo-weaken, up-finite, lo-bound, span-of, span-mul, span-inv, range-by, range-test, normal-by, up-one, lo-one, mul-up, add-up, add-lo, add-lo-at, mul-up-by, mul-lo-by, mul-up-both, mul-lo-both}
 use Rattle.laws.proofs.Whole.{whole-up, whole-lo}
 use Rattle.laws.proofs.First.{First}
-use Rattle.power_series.specs.Error.{one, sumIsOne, goesOn}
-use Rattle.power_series.specs.Orders.{half, quarter, orderAt, orderPlusOne, halfSquare, beyondSeries}
-use Rattle.power_series.proofs.SumBound.{Summed, one-up, ends}
+use Rattle.machine.specs.Small.{one, half, quarter}
+use Rattle.series_sum.specs.Sum.{sumIsOne, goesOn}
+use Rattle.series_step.specs.Setting.{orderAt, orderPlusOne, halfSquare}
+use Rattle.power_series.specs.Series.{beyondSeries}
+use Rattle.series_sum.proofs.SumBound.{Summed, one-up, ends}
 
 -- x against u: where no order is seeded yet, and where one is
 abbrev pub Below : Bool → Float → Float → Type 0
@@ -188,10 +190,10 @@ module _ (v : Float) (limit : Up v 1000 1) where
   visited-ends k b x l h e = ends x (orderPlusOne v k) (visited k b x l h e)
 
 -- ---- the orders that the visit of n orders from v up, at modulus m, reaches; the second index says whether one is seeded
-pub data Reached (v : Float) (n : ℕ) (m : Float) : ℕ → Bool → Type 0 where
-  start : beyondSeries v n m ≡ false → Reached v n m (n - 1) false
-  past-zero : {k : ℕ} {b : Bool} → lt (orderAt v (suc k)) (halfSquare m) ≡ false → Reached v n m (suc k) b → Reached v n m k b
-  past-seed : {k : ℕ} → Reached v n m (suc k) false → Reached v n m k true
+pub data Arrives (v : Float) (n : ℕ) (m : Float) : ℕ → Bool → Type 0 where
+  start : beyondSeries v n m ≡ false → Arrives v n m (n - 1) false
+  past-zero : {k : ℕ} {b : Bool} → lt (orderAt v (suc k)) (halfSquare m) ≡ false → Arrives v n m (suc k) b → Arrives v n m k b
+  past-seed : {k : ℕ} → Arrives v n m (suc k) false → Arrives v n m k true
 
 module _ (v : Float) (limit : Up v 1000 1) (n : ℕ) (few : n ≤ 512) (m : Float) (bound : Up m (2 ^ 16) 1) where
   square-sign : T (nonnegative (halfSquare m))
@@ -200,19 +202,19 @@ module _ (v : Float) (limit : Up v 1000 1) (n : ℕ) (few : n ≤ 512) (m : Floa
       let h : Up (mul binary64 m half) (2 ^ 16) 1 = mul-up binary64 (2 ^ 16) 1 (range-test binary64 (2 ^ 16) 1 tt) (lit≤ tt) bound half-up in
       mul-up binary64 (2 ^ 33) 1 (range-test binary64 (2 ^ 33) 1 tt) (lit≤ tt) h h .sign
 
-  pub reached-low : {k : ℕ} {b : Bool} → Reached v n m k b → k ≤ 511
-  reached-low (start e) = omega arith
-  reached-low (past-zero e r) = let l = reached-low r in omega arith
-  reached-low (past-seed r) = let l = reached-low r in omega arith
+  pub arrives-low : {k : ℕ} {b : Bool} → Arrives v n m k b → k ≤ 511
+  arrives-low (start e) = omega arith
+  arrives-low (past-zero e r) = let l = arrives-low r in omega arith
+  arrives-low (past-seed r) = let l = arrives-low r in omega arith
 
-  pub reached-below : {k : ℕ} {b : Bool} → Reached v n m k b → Below b (halfSquare m) (orderPlusOne v k)
-  reached-below (start e) = top v limit n m few bound e
-  reached-below (past-zero {k} {b} e r) = only b (halfSquare m) (orderPlusOne v k) (zeroed v limit k (halfSquare m) (let l = reached-low r in omega arith) square-sign e)
-  reached-below (past-seed {k} r) = seeded v limit k (halfSquare m) (let l = reached-low r in omega arith) (reached-below r)
+  pub arrives-below : {k : ℕ} {b : Bool} → Arrives v n m k b → Below b (halfSquare m) (orderPlusOne v k)
+  arrives-below (start e) = top v limit n m few bound e
+  arrives-below (past-zero {k} {b} e r) = only b (halfSquare m) (orderPlusOne v k) (zeroed v limit k (halfSquare m) (let l = arrives-low r in omega arith) square-sign e)
+  arrives-below (past-seed {k} r) = seeded v limit k (halfSquare m) (let l = arrives-low r in omega arith) (arrives-below r)
 
   -- a sum that is entered at such an order leaves by its own test, after 19 turns at most
-  pub reached-ends : {k : ℕ} {b : Bool} → Reached v n m k b → sumIsOne (halfSquare m) (orderPlusOne v k) ≡ false → (t : ℕ) × (t ≤ 19) × First false (goesOn (halfSquare m) (orderPlusOne v k)) t
-  reached-ends {k} {b} r e = visited-ends v limit k b (halfSquare m) (reached-low r) (reached-below r) e
+  pub arrives-ends : {k : ℕ} {b : Bool} → Arrives v n m k b → sumIsOne (halfSquare m) (orderPlusOne v k) ≡ false → (t : ℕ) × (t ≤ 19) × First false (goesOn (halfSquare m) (orderPlusOne v k)) t
+  arrives-ends {k} {b} r e = visited-ends v limit k b (halfSquare m) (arrives-low r) (arrives-below r) e
 
 -- ---- the limits as the domain has them: orders to 1000, parts to 32768 and so moduli to 46341
 pub order-limit : (v : Float) → T (nonnegative v) → T (le v (ofBits binary64 0x408F400000000000)) → Up v 1000 1

@@ -12,11 +12,12 @@ use Rattle.laws.specs.Run.{run}
 use Rattle.laws.proofs.Run.{Ends, run-ends}
 use Rattle.machine.specs.Constants.{notANumber}
 use Rattle.complex.specs.declared.number.Complex.{Complex}
-use Rattle.power_series.specs.declared.ground.Ground.{Ground}
-use Rattle.power_series.specs.declared.step.Descent.{Descent}
-use Rattle.power_series.specs.Step.{startDescent, stepOf}
+use Rattle.series_step.specs.declared.setting.Setting.{Setting}
+use Rattle.series_step.specs.declared.descent.Descent.{Descent}
+use Rattle.series_step.specs.Descent.{startDescent}
+use Rattle.series_step.specs.Step.{stepOf}
 use Rattle.power_series.specs.Visit.{Walk, startWalk, isStopped, withEntry, nextWalk, walkOf, visitedOf, visitOf}
-use Rattle.power_series.proofs.StepFacts.{Did, zeroed, kept, recurred, did}
+use Rattle.series_step.proofs.StepFacts.{Did, zeroed, kept, recurred, did}
 use Rattle.power_series.proofs.WalkFacts.{stopping, stepping}
 
 abbrev nought : Float
@@ -28,16 +29,16 @@ ordersOf s = s .counts .zeros + s .seeded + s .counts .rungs
 
 -- of n orders i are done
 pub record Along (n i : ℕ) (w : Walk) : Type 0 where
-  pub left : w .reached .left ≡ n - i
-  pub counted : ordersOf (w .reached .state) ≡ i
+  pub left : w .standing .left ≡ n - i
+  pub counted : ordersOf (w .standing .state) ≡ i
   pub written : length (w .cells) ≡ i * 2
-  pub begun : w .reached .state .stopped ≡ true → 0 < i
-  pub zero-entry : w .reached .state .stopped ≡ true → (rest : List Float) × (w .cells ≡ nought ∷ nought ∷ rest)
+  pub begun : w .standing .state .stopped ≡ true → 0 < i
+  pub zero-entry : w .standing .state .stopped ≡ true → (rest : List Float) × (w .cells ≡ nought ∷ nought ∷ rest)
 
 false-true : false ≡ true → ⊥
 false-true e = let z : _≡_ {A = ℕ} 0 1 = cc in omega arith
 
-module _ (g : Ground) (n : ℕ) where
+module _ (g : Setting) (n : ℕ) where
   starts : Along n 0 (startWalk n)
   unfolding startWalk startDescent
   starts = record { left = omega arith; counted = refl; written = refl; begun = λ e. absurd (false-true e); zero-entry = λ e. absurd (false-true e) }
@@ -56,10 +57,10 @@ module _ (g : Ground) (n : ℕ) where
   goes : (i : ℕ) (w : Walk) → isStopped w ≡ false → Along n i w → Along n (suc i) (nextWalk g w)
   unfolding nextWalk withEntry
   goes i w o a =
-      let k = w .reached .left - 1 in
-      let s = w .reached .state in
+      let k = w .standing .left - 1 in
+      let s = w .standing .state in
       let more = orders-more k s in
-      let left : w .reached .left ≡ n - i = a .left in
+      let left : w .standing .left ≡ n - i = a .left in
       let counted : ordersOf s ≡ i = a .counted in
       let written : length (w .cells) ≡ i * 2 = a .written in
       record { left = omega arith; counted = more ∙ omega arith; written = omega arith; begun = λ e. omega arith; zero-entry = λ e. entry k s (w .cells) e }
@@ -75,7 +76,7 @@ module _ (g : Ground) (n : ℕ) where
   within : ended .k ≤ n
   within = let h : ended .k ≤ 0 + n = ended .to in omega arith
 
-  pub orders-counted : ordersOf (walkOf g n .reached .state) + walkOf g n .reached .left ≡ n
+  pub orders-counted : ordersOf (walkOf g n .standing .state) + walkOf g n .standing .left ≡ n
   orders-counted =
       let left = along .left in
       let counted = along .counted in
@@ -103,13 +104,13 @@ module _ (g : Ground) (n : ℕ) where
       let begun : 0 < ended .k = along .begun e in
       let few = within in
       let z = along .zero-entry e in
-      record { low = omega arith; rest = z .0; cells = ap (λ (l : List Float). replicate (walkOf g n .reached .left * 2) notANumber ++ l) (z .1) }
+      record { low = omega arith; rest = z .0; cells = ap (λ (l : List Float). replicate (walkOf g n .standing .left * 2) notANumber ++ l) (z .1) }
 
   -- one that did not stop went through all orders
   pub whole : visitOf g n .visit .stopped ≡ false → visitOf g n .visit .place ≡ 0
   unfolding visitOf visitedOf walkOf isStopped
   whole e = at (ended .ended)
     where
-      at : (stopping (ended .k) (run stopping (stepping g) n 0 (startWalk n)) ≡ true) ⊎ (ended .k ≡ 0 + n) → walkOf g n .reached .left ≡ 0
+      at : (stopping (ended .k) (run stopping (stepping g) n 0 (startWalk n)) ≡ true) ⊎ (ended .k ≡ 0 + n) → walkOf g n .standing .left ≡ 0
       at (inl h) = absurd (false-true (sym e ∙ h))
       at (inr h) = let left = along .left in omega arith

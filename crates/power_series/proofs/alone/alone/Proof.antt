@@ -8,12 +8,12 @@ use lib.ListN.{length}
 use Rattle.complex.specs.declared.number.Complex.{Complex}
 use Rattle.complex.specs.Arithmetic.{timesReal}
 use Rattle.complex.specs.Functions.{modulusOf}
-use Rattle.power_series.specs.declared.ground.Ground.{Ground}
-use Rattle.power_series.specs.declared.sum.Sum.{Sum}
-use Rattle.power_series.specs.Orders.{half, halfSquare}
-use Rattle.power_series.specs.Sum.{sumOf}
-use Rattle.power_series.specs.Ground.{turnedOf, squareOf, groundOf}
-use Rattle.power_series.specs.Plain.{Plain}
+use Rattle.series_step.specs.declared.setting.Setting.{Setting}
+use Rattle.series_sum.specs.declared.sum.Sum.{Sum}
+use Rattle.machine.specs.Small.{half}
+use Rattle.series_step.specs.Setting.{halfSquare, turnedOf, squareOf, settingOf}
+use Rattle.series_sum.specs.Sum.{sumOf}
+use Rattle.power_series.specs.shapes.Alone.{Plain}
 use Rattle.power_series.specs.Visit.{visitOf}
 use Rattle.power_series.proofs.AloneFacts.{sumAt, sum-is, alone-visited, alone-written, pair-cells}
 use borrow.Author.Needs.{needs}
@@ -80,8 +80,8 @@ returns-2 c =
     let p = d .before .before .prepare in
     let s = d .before .before .before .before .before .before .before .before .before .before .before .before in
     let n : length (s .args .out .now) / 2 ≡ 1 = omega (arith, s .pre .1) in (
-      d .stepwise .ensures .0 ∙ ap (λ (k : ℕ). visitOf (p .result) k .visit) n ∙ ap (λ (g : Ground). visitOf g 1 .visit) (p .ensures),
-      d .stepwise .ensures .1 ∙ ap (λ (k : ℕ). visitOf (p .result) k .cells) n ∙ ap (λ (g : Ground). visitOf g 1 .cells) (p .ensures),
+      d .stepwise .ensures .0 ∙ ap (λ (k : ℕ). visitOf (p .result) k .visit) n ∙ ap (λ (g : Setting). visitOf g 1 .visit) (p .ensures),
+      d .stepwise .ensures .1 ∙ ap (λ (k : ℕ). visitOf (p .result) k .cells) n ∙ ap (λ (g : Setting). visitOf g 1 .cells) (p .ensures),
     )
 
 pub alone-spec : {M : Type 1} → statement M

@@ -7,11 +7,11 @@ use lib.Ieee.{neg, le}
 use lib.ListN.{length}
 use Rattle.machine.specs.Constants.{approximationLimit}
 use Rattle.complex.specs.declared.number.Complex.{Complex}
-use Rattle.power_series.specs.declared.visit.Reached.{Reached}
+use Rattle.power_series.specs.declared.visit.Standing.{Standing}
 use Rattle.power_series.specs.declared.pair.Pair.{Pair}
-use Rattle.power_series.specs.Orders.{orderAt}
+use Rattle.series_step.specs.Setting.{orderAt}
 use Rattle.power_series.specs.Visit.{Visited}
-use Rattle.power_series.specs.Pair.{pairOf, Begun}
+use Rattle.power_series.specs.shapes.Pair.{pairOf, Begun}
 use Rattle.power_series.proofs.WalkFacts.{walk-left, concluded-visit}
 use Rattle.power_series.proofs.PairFacts.{leadFirst, begun}
 use borrow.Author.Needs.{needs}
@@ -93,7 +93,7 @@ concluded-requires c κs =
     let s = c .before .before .before .before .before .before .before .before .before .before .before .before .before .before .before .before .before .before in
     let d = c .before .before .before .paired in
     let k : length (d .last .1 .1 .0) ≡ length (s .args .out .now) = d .kept .1 .1 .0 in
-    let h : d .result .left ≤ length (s .args .out .now) / 2 = subst (λ (r : Reached). r .left ≤ length (s .args .out .now) / 2) (sym (d .ensures .0)) (walk-left _ _) in
+    let h : d .result .left ≤ length (s .args .out .now) / 2 = subst (λ (r : Standing). r .left ≤ length (s .args .out .now) / 2) (sym (d .ensures .0)) (walk-left _ _) in
     let few : length (d .last .1 .1 .0) ≤ 1024 = omega (arith, s .pre, k) in
     let low : d .result .left * 2 ≤ length (d .last .1 .1 .0) = omega (arith, k, h) in
     (few, low)

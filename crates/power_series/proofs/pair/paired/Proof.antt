@@ -4,7 +4,7 @@ use Prim.Native.Nat.{ℕ, _-_, _*_, _/_, _%_, _≤_, _<_}
 use native.Mathlib.Omega.{arith}
 use lib.ListN.{length, length-set, drop}
 use Rattle.power_series.specs.Visit.{Walk, walkOf}
-use Rattle.power_series.specs.Pair.{Settled, walkFrom}
+use Rattle.power_series.specs.shapes.Pair.{Settled, walkFrom}
 use Rattle.power_series.proofs.WalkFacts.{Walking, walking-whole}
 use Rattle.power_series.proofs.PairFacts.{paired-settled, pairedCells, paired-walk}
 use borrow.Author.Needs.{needs}
@@ -96,7 +96,7 @@ returns c =
     ∙ ap (λ (q : ℕ). walkFrom g (q / 2) (n - 1 - 1) lower (drop ((n - 1 - 1) * 2) cells)) (sym (w .down .same))
     ∙ e .ensures .2
     ∙ ap (λ (q : ℕ). walkFrom g (q / 2) (r .left) (r .state) (drop (r .left * 2) last)) (sym (e .kept .1 .1 .1 .0)) in
-    (t .ensures .0 ∙ ap (λ (q : Walk). q .reached) (sym whole), t .ensures .1 ∙ ap (λ (q : Walk). q .cells) (sym whole))
+    (t .ensures .0 ∙ ap (λ (q : Walk). q .standing) (sym whole), t .ensures .1 ∙ ap (λ (q : Walk). q .cells) (sym whole))
 
 pub paired-spec : {M : Type 1} → statement M
 paired-spec =

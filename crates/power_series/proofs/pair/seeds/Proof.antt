@@ -2,10 +2,12 @@
 use mathlib.Core.Path.{_≡_, ap}
 use Prim.Native.Nat.{_+_}
 use native.Mathlib.Omega.{arith}
-use Rattle.power_series.specs.declared.step.Descent.{Descent}
-use Rattle.power_series.specs.Orders.{orderAt}
-use Rattle.power_series.specs.Step.{startDescent, markedOf, keptOf}
-use Rattle.power_series.specs.Pair.{enteredOf, pairOf}
+use Rattle.series_step.specs.declared.descent.Descent.{Descent}
+use Rattle.series_step.specs.Setting.{orderAt}
+use Rattle.series_step.specs.Descent.{startDescent}
+use Rattle.series_step.specs.Mark.{markedOf}
+use Rattle.series_step.specs.Seed.{keptOf}
+use Rattle.power_series.specs.shapes.Pair.{enteredOf, pairOf}
 use borrow.Author.Needs.{needs}
 use Rattle.power_series.proofs.pair.seeds.Statement.{statement}
 use Rattle.power_series.proofs.pair.seeds.Tie as tie

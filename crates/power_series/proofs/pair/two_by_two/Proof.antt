@@ -3,9 +3,9 @@ use mathlib.Core.Path.{_≡_, refl, sym, _∙_, subst}
 use Prim.Native.Nat.{_+_, _-_, _*_, _/_, _%_, _≤_, _<_}
 use native.Mathlib.Omega.{arith}
 use lib.ListN.{length, length-set, drop}
-use Rattle.power_series.specs.declared.step.Descent.{Descent}
-use Rattle.power_series.specs.Pair.{Settled, walkFrom}
-use Rattle.power_series.proofs.WalkFacts.{Walking, walking-from, walking-step, walking-end, walking-reached, walking-cells}
+use Rattle.series_step.specs.declared.descent.Descent.{Descent}
+use Rattle.power_series.specs.shapes.Pair.{Settled, walkFrom}
+use Rattle.power_series.proofs.WalkFacts.{Walking, walking-from, walking-step, walking-end, walking-standing, walking-cells}
 use Rattle.power_series.proofs.PairFacts.{settled-step, settled-next}
 use borrow.Author.Needs.{needs}
 use Rattle.power_series.proofs.pair.two_by_two.Statement.{statement}
@@ -127,7 +127,7 @@ returns c =
     let l = c .before .loop in
     let w = l .inv .2 in
     let e = walking-end _ _ _ w (omega (arith, l .inv .0)) in
-    (walking-reached _ _ _ w e, walking-cells _ _ _ w e)
+    (walking-standing _ _ _ w e, walking-cells _ _ _ w e)
 
 pub two-by-two-spec : {M : Type 1} → statement M
 two-by-two-spec =

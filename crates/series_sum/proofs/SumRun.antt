@@ -1,0 +1,52 @@
+-- The run of a sum as its loop goes through it: what is left of it, one term further on, and at its end. Assumes nothing.
+use mathlib.Core.Path.{_≡_, refl, sym, ap, subst}
+use mathlib.Core.Bool.{Bool, true, false, not, _&&_}
+use Prim.Native.Nat.{ℕ, _+_, _-_, _≤_, _<_}
+use lib.Dec.{T}
+use lib.Ieee.{Float, lt}
+use Rattle.laws.specs.Run.{run}
+use Rattle.laws.proofs.Run.{run-next, run-stop, run-end}
+use Rattle.complex.specs.declared.number.Complex.{Complex}
+use Rattle.series_sum.specs.declared.sum.Partial.{Partial}
+use Rattle.series_sum.specs.Sum.{startSum, nextSum, isSummed, sumWithin, sumFrom, sumUnless}
+use Rattle.series_sum.specs.shapes.Sum.{sumRest}
+use Rattle.series_sum.specs.shapes.Sums.{oneOr, bothGoOn}
+
+pub terms-start : (u : Float) → startSum u .terms ≡ 0
+unfolding startSum
+terms-start u = refl
+
+pub terms-next : (w : Complex) (x : Float) (s : Partial) → nextSum w x s .terms ≡ s .terms + 1
+unfolding nextSum
+terms-next w x s = refl
+
+module _ (w : Complex) (x tolerance : Float) where
+  pub rest-start : (u : Float) → sumFrom w x u tolerance ≡ sumRest w x tolerance (startSum u)
+  unfolding sumWithin sumFrom startSum
+  rest-start u = refl
+
+  pub rest-next : (s : Partial) → s .terms < 19 → lt tolerance (s .estimate .error) ≡ true → sumRest w x tolerance s ≡ sumRest w x tolerance (nextSum w x s)
+  unfolding isSummed nextSum
+  rest-next s h e = run-next (λ i p. isSummed tolerance p) (λ i p. nextSum w x p) 19 (s .terms) s h (ap not e)
+
+  pub rest-stop : (s : Partial) → lt tolerance (s .estimate .error) ≡ false → sumRest w x tolerance s ≡ s
+  unfolding isSummed
+  rest-stop s e = run-stop (λ i p. isSummed tolerance p) (λ i p. nextSum w x p) (19 - s .terms) (s .terms) s (ap not e)
+
+  pub rest-end : (s : Partial) → 19 ≤ s .terms → sumRest w x tolerance s ≡ s
+  rest-end s h = run-end (λ i p. isSummed tolerance p) (λ i p. nextSum w x p) 19 (s .terms) s h
+
+-- two sums that both go on
+pub both-go : (t u : Float) (p q : Partial) → bothGoOn t u p q ≡ true → (lt t (p .estimate .error) ≡ true) × (lt u (q .estimate .error) ≡ true)
+unfolding bothGoOn
+both-go t u p q e = go (lt t (p .estimate .error)) (lt u (q .estimate .error)) e
+  where
+    go : (a b : Bool) → a && b ≡ true → (a ≡ true) × (b ≡ true)
+    go true b e = (refl, e)
+    go false b e = absurd (subst T (sym e) tt)
+
+-- a sum that is 1 at once, or not
+pub one-or : (b : Bool) (w : Complex) (x u : Float) → oneOr b (sumUnless false w x u) ≡ sumUnless b w x u
+unfolding oneOr sumUnless
+one-or true w x u = refl
+one-or false w x u = refl

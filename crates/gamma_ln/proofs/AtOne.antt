@@ -5,7 +5,7 @@ use lib.Ieee.{toUnsigned, ofBits, le, lt, eq, round}
 use Rattle.laws.proofs.Zero.{zeroOf}
 use Rattle.machine.specs.Small.{nothing, one}
 use Rattle.rounding.specs.Round.{nearestWhole, roundOf}
-use Rattle.gamma_ln.specs.Tables.{wholeValues}
+use Rattle.gamma_ln_tables.specs.Tables.{wholeValues}
 use Rattle.gamma_ln.specs.GammaLn.{isTabulated, tabulatedOf, gammaLnOf}
 
 tabulated : isTabulated one ≡ true

@@ -16,7 +16,7 @@ use Rattle.rounding.specs.Round.{roundOf, nearestWhole}
 use Rattle.refusal.specs.declared.refusal.Refusal.the-variants.{NotFinite, NotPositive, Overflow}
 use Rattle.gamma_ln.specs.declared.log_gamma.LogGamma.{LogGamma}
 use Rattle.gamma_ln.specs.declared.log_gamma.LogGamma.the-variants.{Value, Refused}
-use Rattle.gamma_ln.specs.Tables.{wholeValues}
+use Rattle.gamma_ln_tables.specs.Tables.{wholeValues}
 use Rattle.gamma_ln.specs.GammaLn.{isTabulated, tabulatedOf, gammaLnOf}
 use Rattle.gamma_ln.specs.LogGamma.{logGammaOf, numberGiven}
 use Rattle.gamma_ln.proofs.Arguments.{above-zero}

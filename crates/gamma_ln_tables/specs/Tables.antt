@@ -1,4 +1,5 @@
--- The tables of log-gamma, each number the nearest f64. Written and confirmed by tools/tables/gamma_ln.py. Definitions only.
+-- The tables of log-gamma (DGAMLN's CF, of DLMF 5.11.1, and GLN), each number the nearest f64. Written and confirmed by
+-- tools/tables/gamma_ln.py. Definitions only.
 use mathlib.Core.List.{List, [], _∷_}
 use lib.Ieee.{Float, binary64, ofBits}
 

@@ -1,9 +1,9 @@
--- `gamma_ln::tables::coefficient` meets its contract, at each of its 22 entries. Written by tools/tables/gamma_ln.py. Assumes nothing.
+-- `gamma_ln_tables::tables::coefficient` meets its contract, at each of its 22 entries. Written by tools/tables/gamma_ln.py. Assumes nothing.
 use lib.Ieee.{ofBits, neg}
 use Rattle.laws.proofs.Arms.{last}
-use Rattle.gamma_ln.specs.Tables.{coefficients}
-use Rattle.gamma_ln.proofs.tables.coefficient.Statement.{statement}
-use Rattle.gamma_ln.proofs.tables.coefficient.Tie as tie
+use Rattle.gamma_ln_tables.specs.Tables.{coefficients}
+use Rattle.gamma_ln_tables.proofs.tables.coefficient.Statement.{statement}
+use Rattle.gamma_ln_tables.proofs.tables.coefficient.Tie as tie
 
 returns : tie.Need-returns
 unfolding coefficients

@@ -1,10 +1,11 @@
-// The tables of log-gamma, each number the nearest f64. They are matches, which the compiler turns into constants in memory: an array would be stored anew in
-// each turn of a loop. Written and confirmed by tools/tables/gamma_ln.py, with specs/Tables.antt and the proofs that they agree.
+// The tables of log-gamma (DGAMLN's CF and GLN), each number the nearest f64. They are matches, which the compiler turns into constants in
+// memory: an array would be stored anew in each turn of a loop. Written and confirmed by tools/tables/gamma_ln.py, with specs/Tables.antt
+// and the proofs that they agree.
 ghost use mathlib.Core.Path.{_≡_};
 ghost use Prim.Native.Nat.{_<_};
 ghost use lib.ListN.{getD};
 ghost use lib.Ieee.{nan};
-ghost use Rattle.gamma_ln.specs.Tables.{coefficients, wholeValues};
+ghost use Rattle.gamma_ln_tables.specs.Tables.{coefficients, wholeValues};
 
 // B(2k)/(2k(2k-1)) with k = i + 1
 pub fn coefficient(i: u32) -> f64

@@ -159,10 +159,10 @@ module _ (turned : Bool) (v : Float) (z : Complex) (m : Float) (s : Bool) (nough
     unfolding visitOf
     whole = ap visitedOf (walked ∙ ap (λ (t : Descent). withEntry 0 t []) stepped)
 
-    pub alone-visit : visitOf g 1 .visit ≡ record { zeros = 0; stopped = false; place = 0; «longest_sum» = sum .terms; rungs = 0 }
+    alone-visit : visitOf g 1 .visit ≡ record { zeros = 0; stopped = false; place = 0; «longest_sum» = sum .terms; rungs = 0 }
     alone-visit = ap (λ (w : Visited). w .visit) whole ∙ ended (leading .0)
 
-    pub alone-cells : visitOf g 1 .cells ≡ sum .value .re ∷ sum .value .im ∷ []
+    alone-cells : visitOf g 1 .cells ≡ sum .value .re ∷ sum .value .im ∷ []
     alone-cells = ap (λ (w : Visited). w .cells) whole ∙ written (leading .0)
 
 -- ---- the same from the test that the order is 0, and from the sum by another name

@@ -2,6 +2,7 @@
 pub mod WalkFacts
 pub mod PairFacts
 pub mod VisitFacts
+pub mod SeriesFacts
 pub mod VisitBound
 pub mod VisitSums
 pub mod UnitFacts

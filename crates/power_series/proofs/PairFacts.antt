@@ -65,7 +65,7 @@ module _ (g : Setting) (k : ℕ) (s : Descent) where
   summed-plainly o h =
       ap (λ (b : Bool). goneIf (isGone b (productOf (sum .value) (coefficientOf lead b))) g order (productOf (sum .value) (coefficientOf lead b)) (markedOf (lead .re) (sum .terms) s)) (unmarked o h)
 
-  pub step-plainly : s .seeded < 2 → s .«near_underflow» ≡ false → le (lead .re) (neg approximationLimit) ≡ false → stepOf g k s ≡ enteredAt
+  step-plainly : s .seeded < 2 → s .«near_underflow» ≡ false → le (lead .re) (neg approximationLimit) ≡ false → stepOf g k s ≡ enteredAt
   unfolding stepOf stepIf seedOf seedIf
   step-plainly n o h = ap (λ (b : Bool). stepIf b g k s) (lt-ltb (s .seeded) 2 n) ∙ ap (λ (b : Bool). seedIf b g order lead s) (not-lost (lead .re) h) ∙ summed-plainly o h
 

@@ -70,7 +70,7 @@ some s zero e F h =
     none a b = omega arith
 some s (suc m) e F h = zero-lt-suc m
 
-pub add-zero-float : (x : Float) (t : Bool) → Something x → add binary64 x (zeroOf t) ≡ x
+add-zero-float : (x : Float) (t : Bool) → Something x → add binary64 x (zeroOf t) ≡ x
 unfolding add
 add-zero-float nan t h = absurd (h .bounded)
 add-zero-float (inf s) t h = absurd (h .bounded)

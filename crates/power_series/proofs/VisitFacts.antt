@@ -1,10 +1,12 @@
--- What the visit of n orders leaves: its cells, 2 to each order; where it stopped, an entry of 0 and below it the fixed not-a-number; and each order from there up counted once, as a zero, a seed or a step of the recurrence.
+-- What the visit of n orders leaves: its cells, 2 to each order; where it stopped, an entry of 0 and below it the fixed not-a-number; each order
+-- from there up counted once, as a zero, a seed or a step of the recurrence; no step before two seeds, and no sum of more than 19 terms.
 -- Assumes nothing.
 use mathlib.Core.Path.{_≡_, refl, sym, ap, _∙_, subst}
 use mathlib.Core.Logic.{_⊎_, inl, inr}
 use mathlib.Core.Bool.{Bool, true, false}
 use mathlib.Core.List.{List, [], _∷_, _++_}
 use Prim.Native.Nat.{ℕ, zero, suc, _+_, _-_, _*_, _≤_, _<_}
+use native.Mathlib.Nat.{zero-lt-suc}
 use native.Mathlib.Omega.{arith}
 use lib.ListN.{length, replicate, length-append, length-replicate}
 use lib.Ieee.{Float, binary64, ofBits}
@@ -28,9 +30,11 @@ abbrev pub ordersOf : Descent → ℕ
 ordersOf s = s .counts .zeros + s .seeded + s .counts .rungs
 
 -- of n orders i are done
-pub record Along (n i : ℕ) (w : Walk) : Type 0 where
+record Along (n i : ℕ) (w : Walk) : Type 0 where
   pub left : w .standing .left ≡ n - i
   pub counted : ordersOf (w .standing .state) ≡ i
+  pub after-seeds : 0 < w .standing .state .counts .rungs → 2 ≤ w .standing .state .seeded
+  pub longest : w .standing .state .counts .«longest_sum» ≤ 19
   pub written : length (w .cells) ≡ i * 2
   pub begun : w .standing .state .stopped ≡ true → 0 < i
   pub zero-entry : w .standing .state .stopped ≡ true → (rest : List Float) × (w .cells ≡ nought ∷ nought ∷ rest)
@@ -41,10 +45,29 @@ false-true e = let z : _≡_ {A = ℕ} 0 1 = cc in omega arith
 module _ (g : Setting) (n : ℕ) where
   starts : Along n 0 (startWalk n)
   unfolding startWalk startDescent
-  starts = record { left = omega arith; counted = refl; written = refl; begun = λ e. absurd (false-true e); zero-entry = λ e. absurd (false-true e) }
+  starts = record {
+    left = omega arith;
+    counted = refl;
+    after-seeds = λ h. omega arith;
+    longest = omega arith;
+    written = refl;
+    begun = λ e. absurd (false-true e);
+    zero-entry = λ e. absurd (false-true e);
+  }
 
   orders-more : (k : ℕ) (s : Descent) → ordersOf (stepOf g k s) ≡ ordersOf s + 1
   orders-more k s = elim (did g k s) [ zeroed d ↦ omega arith | kept d ↦ omega arith | recurred d ↦ omega arith ]
+
+  seeds-first : (k : ℕ) (s : Descent) → (0 < s .counts .rungs → 2 ≤ s .seeded) → 0 < stepOf g k s .counts .rungs → 2 ≤ stepOf g k s .seeded
+  seeds-first k s o h =
+      elim (did g k s) [
+        | zeroed d ↦ (let l = o (omega arith) in omega arith)
+        | kept d ↦ (let l = o (omega arith) in omega arith)
+        | recurred d ↦ omega arith
+      ]
+
+  sum-longest : (k : ℕ) (s : Descent) → s .counts .«longest_sum» ≤ 19 → stepOf g k s .counts .«longest_sum» ≤ 19
+  sum-longest k s l = elim (did g k s) [ zeroed d ↦ d .longest l | kept d ↦ d .longest l | recurred d ↦ d .longest l ]
 
   entry : (k : ℕ) (s : Descent) (cells : List Float) → stepOf g k s .stopped ≡ true → (rest : List Float) × (stepOf g k s .above .re ∷ stepOf g k s .above .im ∷ cells ≡ nought ∷ nought ∷ rest)
   entry k s cells e =
@@ -63,7 +86,15 @@ module _ (g : Setting) (n : ℕ) where
       let left : w .standing .left ≡ n - i = a .left in
       let counted : ordersOf s ≡ i = a .counted in
       let written : length (w .cells) ≡ i * 2 = a .written in
-      record { left = omega arith; counted = more ∙ omega arith; written = omega arith; begun = λ e. omega arith; zero-entry = λ e. entry k s (w .cells) e }
+      record {
+        left = omega arith;
+        counted = more ∙ omega arith;
+        after-seeds = seeds-first k s (a .after-seeds);
+        longest = sum-longest k s (a .longest);
+        written = omega arith;
+        begun = λ e. omega arith;
+        zero-entry = λ e. entry k s (w .cells) e;
+      }
 
   -- where it ends
   abbrev ended : Ends stopping (stepping g) (Along n) n 0 (startWalk n)
@@ -82,6 +113,21 @@ module _ (g : Setting) (n : ℕ) where
       let counted = along .counted in
       let few = within in
       omega arith
+
+  -- two orders at least are seeded before the first step, so that of one order there is none
+  pub rungs-few : walkOf g n .standing .state .counts .rungs ≤ n - 2
+  rungs-few =
+      let s = walkOf g n .standing .state in
+      let counted : ordersOf s ≡ ended .k = along .counted in
+      let few = within in
+      go (s .counts .rungs) (s .counts .zeros) (s .seeded) (omega arith) (along .after-seeds)
+    where
+      go : (r z d : ℕ) → z + d + r ≤ n → (0 < r → 2 ≤ d) → r ≤ n - 2
+      go zero z d h o = omega arith
+      go (suc r) z d h o = let l = o (zero-lt-suc r) in omega arith
+
+  pub longest-few : walkOf g n .standing .state .counts .«longest_sum» ≤ 19
+  longest-few = along .longest
 
   pub cells-length : length (visitOf g n .cells) ≡ n * 2
   unfolding visitOf visitedOf

@@ -75,7 +75,7 @@ module _ (g : Setting) (m : Float) (n : ℕ) (square : g .«abs_half_z_sq» ≡ 
       let more : 0 < left - 1 = h .more in
       by-way left s t (λ q. o (record { on = e; more = omega arith; seeds = q })) (left - 1 - 1) (omega arith) (did g (left - 1) s) (h .on) (h .seeds)
 
-  pub wanted-arrives : (i : ℕ) → Wanted (walkAfter g n i) → Arrives (g .order) n m (walkAfter g n i .standing .left - 1) (ltb 0 (walkAfter g n i .standing .state .seeded))
+  wanted-arrives : (i : ℕ) → Wanted (walkAfter g n i) → Arrives (g .order) n m (walkAfter g n i .standing .left - 1) (ltb 0 (walkAfter g n i .standing .state .seeded))
   wanted-arrives i = run-ends stopping (stepping g) (λ j w. Open w) keeps i 0 (startWalk n) opens .holds
 
 -- the visit at z, of modulus m, over n orders from v up: wherever it wants a seed and its sum is not 1 at once

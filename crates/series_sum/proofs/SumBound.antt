@@ -1,19 +1,17 @@
 -- The I sum at one order leaves by its own test, after 19 turns at most: for 1 ≤ u ≤ 2^32 and x from 2^-52 u, rounded, to (u + 1)(1 + 1/1024).
 -- The denominator after j turns is (j + 1)(u + j), so it is at least (j + 1)(u + 1) but for rounding, and the j-th factor is at most 257 / 256 j from the second on.
 -- So the error after n turns is at most 2 (129 / 128)^n / n! times x / u, against a tolerance of 2^-52 times x / u. Assumes nothing.
-use mathlib.Core.Path.{_≡_, refl, subst}
+use mathlib.Core.Path.{_≡_, subst}
 use mathlib.Core.Bool.{Bool, true, false}
 use Prim.Native.Nat.{ℕ, zero, suc, _+_, _-_, _*_, _^_, _≤_, _<_}
 use native.Mathlib.Nat.{zero-lt-suc, one-mul, mul-pos, mul-le-mul-right}
 use native.Mathlib.Omega.{arith}
 use lib.Dec.{T, lit<, lit≤}
-use lib.Ieee.{Float, Format, binary64, ofBits, round, add, mul, div, lt, le}
+use lib.Ieee.{Float, Format, binary64, ofBits, add, mul, div, lt, le}
 use lib.Ieee.Positive.{num, den, den-pos}
 use Rattle.laws.proofs.Order.{not-lt→le, mul-comm-float}
-use Rattle.laws.proofs.Relative.{nonnegative, nonnegative-value}
-use Rattle.laws.proofs.Value.{lt-values}
-use Rattle.laws.proofs.Bound.{Up, Lo, Span, up-test, lo-test, up-of, lo-of, up-weaken, lo-weaken, up-finite, lo-of-le, span-one, span-of, span-inv, span-div, normal-by, upTest, loTest, up-one, lo-one, add-lo, mul-up-by, mul-lo-by, mul-up-both, div-up-both, div-lo-both, add-lo-by, up-lo-not-by, up-lo-lt, mul-lo-at, every, every-at}
-use Rattle.laws.proofs.First.{First, first, passed, failed}
+use Rattle.laws.proofs.Bound.{Up, Lo, Span, up-test, lo-test, up-of, lo-of, up-weaken, lo-weaken, up-finite, lo-of-le, span-one, span-of, span-inv, span-div, normal-by, upTest, loTest, up-one, lo-one, add-lo, mul-up-by, mul-lo-by, mul-up-both, div-up-both, div-lo-both, add-lo-by, up-lo-not-by, every, every-at}
+use Rattle.laws.proofs.First.{First, first, failed}
 use Rattle.laws.specs.Iterate.{iterate}
 use Rattle.machine.specs.Constants.{tolerance}
 use Rattle.machine.specs.Small.{one, two}
@@ -198,18 +196,10 @@ module _ (x u : Float) (h : Summed x u) where
       (mul-lo-after binary64 1 1 255 (256 * 2 ^ 52) square tt tolerance-lo (lo-one (lo-of x (h .bound .sign)))) (up-one (up-of u (h .most .sign)))
 
   -- after 19 turns the test fails
-  pub meets : goesOn x u 19 ≡ false
+  meets : goesOn x u 19 ≡ false
   unfolding goesOn errorOver errorUnder
   meets = failed (lt (sumTolerance x u) (estimateAfter x u 19 .error)) (up-lo-not-by (errorOver 19) (errorUnder 19) 127 (128 * 2 ^ 52) ratio (error-up 18 (lit< tt)) tolerance-of-sum tt)
 
   -- so the loop leaves at a first turn, the 19th or an earlier one
   pub ends : (n : ℕ) × (n ≤ 19) × First false (goesOn x u) n
   ends = first false (goesOn x u) 19 meets
-
--- below 2^-52 no sum is entered
-pub tiny : (x u : Float) → T (nonnegative x) → Lo u 1 1 → T (lt x tolerance) → sumIsOne x u ≡ true
-unfolding sumIsOne tolerance ofBits round
-tiny x u p U h =
-    let y : Lo (mul binary64 tolerance u) 1 (2 ^ 52) = mul-lo-at binary64 1 (2 ^ 52) (lit< tt) (lit< tt) (lit< tt) tolerance u tolerance-lo U (lit≤ tt) (lo-test (round binary64 false 1 (2 ^ 52)) 1 (2 ^ 52) tt) in
-    let l : num x * 2 ^ 52 < 1 * den x = lt-values x tolerance (num x) (den x) 1 (2 ^ 52) (den-pos x) (lit< tt) (nonnegative-value x p) (refl, refl) h in
-    passed (lt x (mul binary64 tolerance u)) (up-lo-lt x (mul binary64 tolerance u) (up-of x p) y l)

@@ -1,19 +1,18 @@
 -- The visit of the one order 0, unscaled: ln of the leading term is a zero in each part, its exponential is 1 with a zero beside it, and the product with the sum is the sum. Assumes nothing.
 use mathlib.Core.Path.{_≡_, refl, sym, ap, _∙_, subst}
-use mathlib.Core.Bool.{Bool, true, false, not}
+use mathlib.Core.Bool.{Bool, true, false}
 use mathlib.Core.List.{List, [], _∷_}
 use Prim.Native.Nat.{ℕ, zero, suc}
 use native.Mathlib.Nat.{zero-lt-suc}
 use native.Mathlib.Omega.{arith}
 use lib.ListN.{length, set}
 use lib.Dec.{T}
-use lib.Ieee.{Float, nan, inf, fin, binary64, ofBits, ofInt, toUnsigned, round, fits, isNan, neg, add, sub, mul, lt, le, eq}
+use lib.Ieee.{Float, binary64, ofBits, ofInt, round, fits, neg, add, sub, lt, le, eq}
 use lib.Ieee.Fits.{mul-fits}
-use lib.Ieee.Positive.{positive, positive-finite}
 use lib.Ieee.Scale.{finite}
 use borrow.Author.Tests.{lt-ltb}
 use Rattle.laws.proofs.Run.{run-on, run-out}
-use Rattle.machine.specs.Constants.{tolerance, exponentLimit, approximationLimit}
+use Rattle.machine.specs.Constants.{exponentLimit, approximationLimit}
 use Rattle.complex.specs.declared.number.Complex.{Complex}
 use Rattle.complex.specs.Arithmetic.{productOf, timesReal, minusReal}
 use Rattle.complex.specs.Functions.{modulusOf}

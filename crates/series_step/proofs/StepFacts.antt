@@ -1,6 +1,6 @@
 -- What one order of the visit does: it is set to zero, or seeded, or follows by the recurrence, with the count that each raises; no sum is
 -- longer than 19, and only a zeroed order stops the visit. Assumes nothing.
-use mathlib.Core.Path.{_≡_, refl, ap, _∙_}
+use mathlib.Core.Path.{_≡_, refl}
 use mathlib.Core.Bool.{Bool, true, false, cond}
 use Prim.Native.Nat.{ℕ, _+_, _≤_, _<_}
 use native.Mathlib.Omega.{arith}

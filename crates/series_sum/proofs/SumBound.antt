@@ -2,7 +2,7 @@
 -- The denominator after j turns is (j + 1)(u + j), so it is at least (j + 1)(u + 1) but for rounding, and the j-th factor is at most 257 / 256 j from the second on.
 -- So the error after n turns is at most 2 (129 / 128)^n / n! times x / u, against a tolerance of 2^-52 times x / u. Assumes nothing.
 use mathlib.Core.Path.{_≡_, subst}
-use mathlib.Core.Bool.{Bool, true, false}
+use mathlib.Core.Bool.{Bool, false}
 use Prim.Native.Nat.{ℕ, zero, suc, _+_, _-_, _*_, _^_, _≤_, _<_}
 use native.Mathlib.Nat.{zero-lt-suc, one-mul, mul-pos, mul-le-mul-right}
 use native.Mathlib.Omega.{arith}

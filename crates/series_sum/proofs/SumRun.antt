@@ -6,7 +6,6 @@ use native.Mathlib.Numerals.{add-one}
 use lib.Dec.{T, lit≤}
 use lib.Ieee.{Float, lt}
 use Rattle.laws.specs.Operators.{_⊕_}
-use Rattle.laws.specs.Run.{run}
 use Rattle.laws.proofs.Run.{Ends, run-next, run-stop, run-end, run-ends}
 use Rattle.machine.specs.Small.{one}
 use Rattle.complex.specs.declared.number.Complex.{Complex}
@@ -23,6 +22,9 @@ pub terms-next : (w : Complex) (x : Float) (s : Partial) → nextSum w x s .term
 unfolding nextSum
 terms-next w x s = refl
 
+pub next-counts : (w : Complex) (x : Float) (s t : Partial) → t ≡ nextSum w x s → t .terms ≡ s .terms + 1
+next-counts w x s t e = ap (λ (p : Partial). p .terms) e ∙ terms-next w x s
+
 module _ (w : Complex) (x tolerance : Float) where
   pub rest-start : (u : Float) → sumFrom w x u tolerance ≡ sumRest w x tolerance (startSum u)
   unfolding sumWithin sumFrom startSum
@@ -31,6 +33,9 @@ module _ (w : Complex) (x tolerance : Float) where
   pub rest-next : (s : Partial) → s .terms < 19 → lt tolerance (s .estimate .error) ≡ true → sumRest w x tolerance s ≡ sumRest w x tolerance (nextSum w x s)
   unfolding isSummed nextSum
   rest-next s h e = run-next (λ i p. isSummed tolerance p) (λ i p. nextSum w x p) 19 (s .terms) s h (ap not e)
+
+  pub rest-after : (s t : Partial) → t ≡ nextSum w x s → s .terms < 19 → lt tolerance (s .estimate .error) ≡ true → sumRest w x tolerance s ≡ sumRest w x tolerance t
+  rest-after s t n h e = rest-next s h e ∙ ap (sumRest w x tolerance) (sym n)
 
   pub rest-stop : (s : Partial) → lt tolerance (s .estimate .error) ≡ false → sumRest w x tolerance s ≡ s
   unfolding isSummed

@@ -18,7 +18,8 @@ kept-requires : tie.Need-kept-requires
 unfolding markedOf
 kept-requires c κs =
     let s = c .before .before .before in
-    let e : c .before .marked .result .seeded ≡ s .args .s .seeded = ap (λ (q : Descent). q .seeded) (c .before .marked .ensures) in
+    let m = c .before .marked in
+    let e : m .result .seeded ≡ s .args .s .seeded = ap (λ (q : Descent). q .seeded) (m .ensures) in
     omega (arith, s .pre)
 
 returns : tie.Need-returns

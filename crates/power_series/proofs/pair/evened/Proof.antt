@@ -1,6 +1,6 @@
 -- `power_series::pair::evened` meets its contract: an even number of orders, and one step more. Assumes nothing.
-use mathlib.Core.Path.{_≡_, refl, sym, _∙_, subst}
-use Prim.Native.Nat.{_-_, _*_, _/_, _%_, _≤_, _<_}
+use mathlib.Core.Path.{_≡_, sym, _∙_, subst}
+use Prim.Native.Nat.{_-_, _*_, _/_, _<_}
 use native.Mathlib.Omega.{arith}
 use lib.ListN.{length, length-set}
 use Rattle.series_step.specs.declared.descent.Descent.{Descent}

@@ -1,7 +1,7 @@
 -- `power_series::visit::descend` meets its contract: before each order the run that is left, from the state and the cells as they are, ends as the whole run does. Assumes nothing.
 use mathlib.Core.Path.{_≡_}
 use native.Mathlib.Omega.{arith}
-use Prim.Native.Nat.{_+_, _-_, _*_, _/_, _≤_, _<_}
+use Prim.Native.Nat.{_-_, _/_}
 use lib.ListN.{length, length-set}
 use Rattle.power_series.specs.Visit.{walkOf}
 use Rattle.power_series.proofs.WalkFacts.{Walking, walking-start, walking-step, walking-stop, walking-end, walking-standing, walking-cells}

@@ -1,6 +1,5 @@
 -- `series_step::seed::summed` meets its contract: the value is gone, or kept. Assumes nothing.
 use mathlib.Core.Path.{_≡_, ap}
-use Prim.Native.Nat.{ℕ}
 use native.Mathlib.Omega.{arith}
 use Rattle.series_step.specs.declared.descent.Descent.{Descent}
 use Rattle.series_step.specs.Mark.{markedOf}

@@ -1,11 +1,9 @@
 -- `series_sum::sum::finish` meets its contract: before each turn what is left of the sum, from the state as it is, ends as it did at first. Assumes nothing.
-use mathlib.Core.Path.{_≡_, refl, sym, ap, _∙_}
+use mathlib.Core.Path.{_≡_, refl, sym, _∙_}
 use Prim.Native.Nat.{_-_, _≤_, _<_}
 use native.Mathlib.Omega.{arith}
-use Rattle.series_sum.specs.declared.sum.Partial.{Partial}
 use Rattle.series_sum.specs.shapes.Sum.{sumRest}
-use Rattle.series_sum.proofs.SumRun.{terms-next, rest-next, rest-stop}
-use borrow.Author.Needs.{needs}
+use Rattle.series_sum.proofs.SumRun.{next-counts, rest-after, rest-stop}
 use Rattle.series_sum.proofs.sum.finish.Statement.{statement}
 use Rattle.series_sum.proofs.sum.finish.Tie as tie
 
@@ -23,31 +21,31 @@ next-requires c κs = omega arith
 
 next-requires-2 : tie.Need-next-requires-2 Inv-loop μ-loop
 next-requires-2 c κs =
-    let t = ap (λ (p : Partial). p .terms) (c .before .before .before .next .ensures) ∙ terms-next _ _ (c .before .before .before .before .before .before .before .before .before .loop .s) in
+    let t = next-counts _ _ _ _ (c .before .before .before .next .ensures) in
     omega arith
 
 loop-less : tie.Need-loop-less Inv-loop μ-loop
 loop-less c =
-    let t = ap (λ (p : Partial). p .terms) (c .before .before .before .before .next .ensures) ∙ terms-next _ _ (c .before .before .before .before .before .before .before .before .before .before .loop .s) in
-    let u = ap (λ (p : Partial). p .terms) (c .next2 .ensures) ∙ terms-next _ _ (c .before .before .before .before .next .result) in
+    let t = next-counts _ _ _ _ (c .before .before .before .before .next .ensures) in
+    let u = next-counts _ _ _ _ (c .next2 .ensures) in
     omega arith
 
 loop-again : tie.Need-loop-again Inv-loop μ-loop
 loop-again c =
     let d = c .before .before .before .before in
     let l = d .before .before .before .before .before .before .loop in
-    let t = ap (λ (p : Partial). p .terms) (d .next .ensures) ∙ terms-next _ _ (l .s) in
-    let u = ap (λ (p : Partial). p .terms) (c .next2 .ensures) ∙ terms-next _ _ (d .next .result) in
+    let t = next-counts _ _ _ _ (d .next .ensures) in
+    let u = next-counts _ _ _ _ (c .next2 .ensures) in
     let h : l .s .terms < 19 = omega arith in
     let k : d .next .result .terms < 19 = omega arith in
-    (omega arith, l .inv .1 ∙ rest-next _ _ _ (l .s) h (d .before .if2 .taken) ∙ ap (sumRest _ _ _) (sym (d .next .ensures)) ∙ rest-next _ _ _ (d .next .result) k (c .before .if3 .taken) ∙ ap (sumRest _ _ _) (sym (c .next2 .ensures)))
+    (omega arith, l .inv .1 ∙ rest-after _ _ _ _ _ (d .next .ensures) h (d .before .if2 .taken) ∙ rest-after _ _ _ _ _ (c .next2 .ensures) k (c .before .if3 .taken))
 
 returns : tie.Need-returns Inv-loop μ-loop
 returns c =
     let d = c .before .before .before in
     let l = d .before .before .before .before .before .before .loop in
     let h : l .s .terms < 19 = omega arith in
-    sym (l .inv .1 ∙ rest-next _ _ _ (l .s) h (d .before .if2 .taken) ∙ ap (sumRest _ _ _) (sym (d .next .ensures)) ∙ rest-stop _ _ _ (d .next .result) (c .if3 .left))
+    sym (l .inv .1 ∙ rest-after _ _ _ _ _ (d .next .ensures) h (d .before .if2 .taken) ∙ rest-stop _ _ _ (d .next .result) (c .if3 .left))
 
 returns-2 : tie.Need-returns-2 Inv-loop μ-loop
 returns-2 c =

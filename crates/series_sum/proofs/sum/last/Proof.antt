@@ -1,5 +1,5 @@
 -- `series_sum::sum::last` meets its contract: one term more, the sum's own end, and the bound. Assumes nothing.
-use mathlib.Core.Path.{_≡_, sym, _∙_}
+use mathlib.Core.Path.{sym, _∙_}
 use Prim.Native.Nat.{_≤_, _<_}
 use native.Mathlib.Omega.{arith}
 use Rattle.series_sum.specs.Sum.{nextSum}

@@ -1,5 +1,5 @@
 -- `series_sum::sum::single_n_iteration` meets its contract: the sum that is 1 at once, and the run. Assumes nothing.
-use mathlib.Core.Path.{_≡_, sym, ap, _∙_}
+use mathlib.Core.Path.{sym, ap, _∙_}
 use native.Mathlib.Omega.{arith}
 use Rattle.machine.specs.Constants.{tolerance}
 use Rattle.series_sum.specs.declared.sum.Partial.{Partial}

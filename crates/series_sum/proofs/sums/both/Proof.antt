@@ -1,5 +1,5 @@
 -- `series_sum::sums::both` meets its contract: what is left of each sum, side by side and then by itself. Assumes nothing.
-use mathlib.Core.Path.{_≡_, sym, ap, _∙_}
+use mathlib.Core.Path.{sym, ap, _∙_}
 use native.Mathlib.Omega.{arith}
 use Rattle.machine.specs.Constants.{tolerance}
 use Rattle.series_sum.specs.declared.sum.Partial.{Partial}

@@ -1,5 +1,5 @@
 -- `series_sum::sums::ended` meets its contract: what is left of the sum, or nothing. Assumes nothing.
-use mathlib.Core.Path.{_≡_, sym, ap, _∙_}
+use mathlib.Core.Path.{sym, ap, _∙_}
 use Rattle.series_sum.specs.shapes.Sums.{outcomeOf}
 use Rattle.series_sum.proofs.SumRun.{rest-stop}
 use borrow.Author.Needs.{needs}

@@ -1,5 +1,5 @@
 -- `series_sum::sums::two_sums` meets its contract. Assumes nothing.
-use mathlib.Core.Path.{_≡_, ap, _∙_}
+use mathlib.Core.Path.{ap, _∙_}
 use Rattle.machine.specs.Constants.{tolerance}
 use Rattle.series_sum.specs.Sum.{sumIsOne, sumOf}
 use Rattle.series_sum.specs.shapes.Sums.{oneOr}

@@ -1,5 +1,5 @@
 #!/usr/bin/env python3
-"""gamma_ln.py [--check]: the tables of crate gamma_ln, from mpmath at 300 bits.
+"""gamma_ln.py [--check]: the tables of crate gamma_ln_tables, which gamma_ln stands on, from mpmath at 300 bits.
 
 The 22 coefficients B(2k)/(2k(2k-1)) of Stirling's series, DLMF 5.11.1, and ln((j-1)!) at index j = 1..100, each the nearest f64; index 0 is
 never asked for and holds 0. Writes src/tables.rt, specs/Tables.antt and the proofs that the two agree; with --check it writes nothing, compares the
@@ -10,7 +10,7 @@ from f64 import bits, nearest, of_bits
 
 mp.prec = 300
 HERE = os.path.dirname(os.path.abspath(__file__))
-CRATE = os.path.join(HERE, '..', '..', 'crates', 'gamma_ln')
+CRATE = os.path.join(HERE, '..', '..', 'crates', 'gamma_ln_tables')
 
 
 def true_values():
@@ -28,10 +28,11 @@ LN_2_PI = 0x3FFD67F1C864BEB5
 
 
 def source(tables):
-    out = ['// The tables of log-gamma, each number the nearest f64. They are matches, which the compiler turns into constants in memory: an array would be stored anew in',
-           '// each turn of a loop. Written and confirmed by tools/tables/gamma_ln.py, with specs/Tables.antt and the proofs that they agree.',
+    out = ['// The tables of log-gamma (DGAMLN\'s CF and GLN), each number the nearest f64. They are matches, which the compiler turns into constants in',
+           '// memory: an array would be stored anew in each turn of a loop. Written and confirmed by tools/tables/gamma_ln.py, with specs/Tables.antt',
+           '// and the proofs that they agree.',
            'ghost use mathlib.Core.Path.{_≡_};', 'ghost use Prim.Native.Nat.{_<_};', 'ghost use lib.ListN.{getD};', 'ghost use lib.Ieee.{nan};',
-           'ghost use Rattle.gamma_ln.specs.Tables.{%s};' % ', '.join(name for _, name, _, _, _ in TABLES)]
+           'ghost use Rattle.gamma_ln_tables.specs.Tables.{%s};' % ', '.join(name for _, name, _, _, _ in TABLES)]
     for (function, name, index, size, what), table in zip(TABLES, tables):
         out += ['', '// ' + what, 'pub fn %s(%s: u32) -> f64' % (function, index), '    requires { ⌜ %s < %d ⌝ }' % (index, size),
                 '    ensures { λ r. ⌜ r ≡ getD %s %s nan ⌝ }' % (name, index), '{', '    match %s {' % index]
@@ -41,7 +42,8 @@ def source(tables):
 
 
 def definitions(tables):
-    out = ['-- The tables of log-gamma, each number the nearest f64. Written and confirmed by tools/tables/gamma_ln.py. Definitions only.',
+    out = ['-- The tables of log-gamma (DGAMLN\'s CF, of DLMF 5.11.1, and GLN), each number the nearest f64. Written and confirmed by',
+           '-- tools/tables/gamma_ln.py. Definitions only.',
            'use mathlib.Core.List.{List, [], _∷_}', 'use lib.Ieee.{Float, binary64, ofBits}', '']
     for (_, name, _, _, what), table in zip(TABLES, tables):
         out += ['-- ' + what, 'unfoldable pub %s : List Float' % name, '%s =' % name]
@@ -52,12 +54,12 @@ def definitions(tables):
 
 def proof(row, table):
     function, name, index, size, _ = row
-    place = 'Rattle.gamma_ln.proofs.tables.%s' % function
+    place = 'Rattle.gamma_ln_tables.proofs.tables.%s' % function
     needs = ['returns'] + ['returns-%d' % k for k in range(2, size + 1)]
-    out = ['-- `gamma_ln::tables::%s` meets its contract, at each of its %d entries. Written by tools/tables/gamma_ln.py. Assumes nothing.' % (function, size)]
+    out = ['-- `gamma_ln_tables::tables::%s` meets its contract, at each of its %d entries. Written by tools/tables/gamma_ln.py. Assumes nothing.' % (function, size)]
     # the source has a minus sign where the definition has the sign's bit
     out += ['use lib.Ieee.{ofBits, neg}'] * (min(table) < 0)
-    out += ['use Rattle.laws.proofs.Arms.{last}', 'use Rattle.gamma_ln.specs.Tables.{%s}' % name, 'use %s.Statement.{statement}' % place, 'use %s.Tie as tie' % place]
+    out += ['use Rattle.laws.proofs.Arms.{last}', 'use Rattle.gamma_ln_tables.specs.Tables.{%s}' % name, 'use %s.Statement.{statement}' % place, 'use %s.Tie as tie' % place]
     for k, (need, x) in enumerate(zip(needs, table), 1):
         fact = 'c .match .keys%d' % k if k < size else 'last %d (c .before .args .%s) (c .before .pre) (c .match .rest)' % (size - 1, index)
         out += ['', '%s : tie.Need-%s' % (need, need), 'unfolding %s%s' % ('ofBits neg ' if x < 0 else '', name), '%s c = rw (%s)' % (need, fact)]

@@ -3,6 +3,10 @@ use lib.Ieee.{Float, binary64, ofBits, neg}
 use Rattle.laws.specs.Operators.{_⊕_, _⊖_, _⊗_, _⊘_}
 use Rattle.complex.specs.declared.number.Complex.{Complex}
 
+-- both parts +0
+abbrev pub zeroPair : Complex
+zeroPair = record { re = ofBits binary64 0; im = ofBits binary64 0 }
+
 unfoldable pub plusOf : Complex → Complex → Complex
 plusOf z w = record { re = z .re ⊕ w .re; im = z .im ⊕ w .im }
 

@@ -50,7 +50,7 @@ positive-sign (fin true m e) p = absurd p
 positive-sign (fin false m e) p = refl
 
 -- ---- a whole number of the format, as an integer
-pub whole-cast : (x : Float) (k : ℕ) → T (fits binary64 x) → HasValue x false k 1 → k < 2 ^ 32 → T (inUnsigned binary64 32 x) × (toUnsigned 32 x ≡ k)
+whole-cast : (x : Float) (k : ℕ) → T (fits binary64 x) → HasValue x false k 1 → k < 2 ^ 32 → T (inUnsigned binary64 32 x) × (toUnsigned 32 x ≡ k)
 unfolding ofInt inFloat
 whole-cast x k F v h = subst (λ (z : Float). T (inUnsigned binary64 32 z) × (toUnsigned 32 z ≡ k)) same (unsigned-back binary64 32 k (le→leb k (2 ^ 53) (small k h)) h)
   where
@@ -69,7 +69,7 @@ whole-argument x F P t =
     (positive-sign x P)
     (and-r (le x (ofBits binary64 0x4059066666666666)) (eq (roundOf x) x) t)
 
-pub index-value : (x : Float) → T (fits binary64 x) → T (positive x) → T (isTabulated x) → (k : ℕ) × HasValue x false k 1 × (k ≤ 100)
+index-value : (x : Float) → T (fits binary64 x) → T (positive x) → T (isTabulated x) → (k : ℕ) × HasValue x false k 1 × (k ≤ 100)
 unfolding isTabulated ofBits
 index-value x F P t =
     let k = nearestWhole (num x) (den x) in

@@ -1,5 +1,6 @@
 -- What the functions rest on, and what is shown of log-gamma besides.
 pub mod Arguments
+pub mod AtOne
 pub mod LogGammaFacts
 pub mod LowerEnd
 pub mod SeriesEnds

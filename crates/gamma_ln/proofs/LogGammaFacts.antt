@@ -23,7 +23,7 @@ use Rattle.call.specs.Checks as calls
 use Rattle.call.proofs.FirstFacts.{stays, verdict-append, Given, given}
 use Rattle.gamma_ln.specs.declared.log_gamma.LogGamma.{LogGamma}
 use Rattle.gamma_ln.specs.declared.log_gamma.LogGamma.the-variants.{Value, Refused}
-use Rattle.gamma_ln.specs.Tables.{wholeValues}
+use Rattle.gamma_ln_tables.specs.Tables.{wholeValues}
 use Rattle.gamma_ln.specs.GammaLn.{isTabulated, tabulatedOf, gammaLnOf}
 use Rattle.gamma_ln.specs.LogGamma.{argumentChecks, valuedOf, logGammaBy, logGammaOf, numberGiven, allChecks}
 use Rattle.gamma_ln.proofs.Arguments.{above-zero}

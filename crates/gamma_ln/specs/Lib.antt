@@ -1,4 +1,4 @@
-pub mod Tables
+-- The definitions that other crates cite, by topic.
 pub mod Series
 pub mod Factors
 pub mod GammaLn

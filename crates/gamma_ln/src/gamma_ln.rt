@@ -1,5 +1,6 @@
-// ln of the gamma function above zero, with what it took: whole arguments to 100 from a table, others by Stirling's series, below 7 after a shift up.
-// From src/amos/gamma_ln.rs (DGAMLN, which truncates where the shift rounds); DLMF 5.11.1 and 5.5.1. Promised for every f64: specs/GammaLn.antt.
+// ln of the gamma function above zero, with what it took: whole arguments to 100 from a table, others by Stirling's series, below 7 after a
+// shift up. From src/amos/gamma_ln.rs (DGAMLN, which truncates where the shift rounds); DLMF 5.11.1 and 5.5.1. Promised for every f64:
+// specs/GammaLn.antt.
 // Measured on 26,000 arguments: within 13 parts in 2^52 of the value, or of 1 where the value is smaller.
 ghost use mathlib.Core.Path.{_≡_};
 ghost use lib.Dec.{T};
@@ -9,7 +10,7 @@ ghost use Rattle.machine.specs.Constants.{gammaLnMinimum};
 ghost use Rattle.gamma_ln.specs.GammaLn.{isTabulated, tabulatedOf, stirlingOf, shiftedOf, gammaLnOf};
 use crate::factors::factors;
 use crate::series::series;
-use crate::tables::whole_value;
+use gamma_ln_tables::tables::whole_value;
 use logarithm::ln::ln;
 use machine::constants::Machine;
 use machine::constants::not_a_number;

@@ -2,7 +2,7 @@
 // the first. Promised: specs/Series.antt, the count of summed terms with it; from 6.5 on the test ends it within the 22 coefficients.
 ghost use mathlib.Core.Path.{_≡_};
 ghost use Rattle.gamma_ln.specs.Series.{isBelow, seriesOf, furtherOf};
-use crate::tables::coefficient;
+use gamma_ln_tables::tables::coefficient;
 use machine::constants::Machine;
 
 // A sum under way: the power of 1/z of its last term, the sum, and how many terms are in it.

@@ -1,38 +1,36 @@
 -- The visit of the one order 0, unscaled: ln of the leading term is a zero in each part, its exponential is 1 with a zero beside it, and the product with the sum is the sum. Assumes nothing.
 use mathlib.Core.Path.{_≡_, refl, sym, ap, _∙_, subst}
-use mathlib.Core.Bool.{Bool, true, false, not}
+use mathlib.Core.Bool.{Bool, true, false}
 use mathlib.Core.List.{List, [], _∷_}
 use Prim.Native.Nat.{ℕ, zero, suc}
 use native.Mathlib.Nat.{zero-lt-suc}
 use native.Mathlib.Omega.{arith}
 use lib.ListN.{length, set}
 use lib.Dec.{T}
-use lib.Ieee.{Float, nan, inf, fin, binary64, ofBits, ofInt, toUnsigned, round, fits, isNan, neg, add, sub, mul, lt, le, eq}
+use lib.Ieee.{Float, binary64, ofBits, ofInt, round, fits, neg, add, sub, lt, le, eq}
 use lib.Ieee.Fits.{mul-fits}
-use lib.Ieee.Positive.{positive, positive-finite}
 use lib.Ieee.Scale.{finite}
 use borrow.Author.Tests.{lt-ltb}
 use Rattle.laws.proofs.Run.{run-on, run-out}
-use Rattle.machine.specs.Constants.{tolerance, exponentLimit, approximationLimit}
-use Rattle.rounding.specs.Round.{nearestWhole, roundOf}
-use Rattle.logarithm.proofs.LnFacts.{ln-finite}
-use Rattle.angle.proofs.AngleFacts.{angle-number-finite}
-use Rattle.roots.specs.Hypot.{hypotOf}
+use Rattle.machine.specs.Constants.{exponentLimit, approximationLimit}
 use Rattle.complex.specs.declared.number.Complex.{Complex}
 use Rattle.complex.specs.Arithmetic.{productOf, timesReal, minusReal}
-use Rattle.complex.specs.Functions.{modulusOf, argumentOf, lnWith, complexLnOf, complexExpOf}
+use Rattle.complex.specs.Functions.{modulusOf}
 use Rattle.complex.proofs.AtZero.{exp-zeros}
-use Rattle.gamma_ln.specs.Tables.{wholeValues}
-use Rattle.gamma_ln.specs.GammaLn.{isTabulated, tabulatedOf, gammaLnOf}
-use Rattle.power_series.specs.declared.ground.Ground.{Ground}
-use Rattle.power_series.specs.declared.step.Descent.{Descent}
-use Rattle.power_series.specs.declared.sum.Sum.{Sum}
-use Rattle.power_series.specs.Error.{one}
-use Rattle.power_series.specs.Orders.{half, orderAt, halfSquare}
-use Rattle.power_series.specs.Sum.{sumOf}
-use Rattle.power_series.specs.Ground.{turnedOf, squareOf, groundOf}
-use Rattle.power_series.specs.Plain.{Something, Plain}
-use Rattle.power_series.specs.Step.{startDescent, loweredIf, leadingOf, markOf, scaleOf, longestOf, markedOf, coefficientIf, coefficientOf, isGone, keptOf, goneIf, summedOf, seedIf, seedOf, stepIf, stepOf}
+use Rattle.complex.proofs.LnFacts.{complex-ln-finite}
+use Rattle.gamma_ln.proofs.AtOne.{log-gamma-at-one}
+use Rattle.series_step.specs.declared.setting.Setting.{Setting}
+use Rattle.series_step.specs.declared.descent.Descent.{Descent}
+use Rattle.series_sum.specs.declared.sum.Sum.{Sum}
+use Rattle.machine.specs.Small.{one, half}
+use Rattle.series_step.specs.Setting.{orderAt, halfSquare, turnedOf, squareOf, settingOf}
+use Rattle.series_sum.specs.Sum.{sumOf}
+use Rattle.power_series.specs.shapes.Alone.{Something, Plain}
+use Rattle.series_step.specs.Descent.{startDescent}
+use Rattle.series_step.specs.Leading.{loweredIf, leadingOf}
+use Rattle.series_step.specs.Mark.{markOf, scaleOf, longestOf, markedOf}
+use Rattle.series_step.specs.Seed.{coefficientIf, coefficientOf, isGone, keptOf, goneIf, summedOf, seedIf, seedOf}
+use Rattle.series_step.specs.Step.{stepIf, stepOf}
 use Rattle.power_series.specs.Visit.{Visited, startWalk, isStopped, withEntry, nextWalk, walkOf, visitedOf, visitOf}
 use Rattle.power_series.proofs.WalkFacts.{stopping, stepping}
 use Rattle.laws.proofs.Zero.{zeroOf, zero-is}
@@ -48,22 +46,6 @@ next-one : add binary64 (zeroOf false) one ≡ one
 unfolding ofBits add
 next-one = refl
 
-tabulated : isTabulated one ≡ true
-unfolding isTabulated roundOf nearestWhole ofBits le lt eq round
-tabulated = refl
-
-tabled : tabulatedOf one ≡ zeroOf false
-unfolding tabulatedOf toUnsigned wholeValues ofBits
-tabled = refl
-
-above : le one (ofBits binary64 0) ≡ false
-unfolding ofBits le lt eq
-above = refl
-
-log-gamma : gammaLnOf one .value ≡ zeroOf false
-unfolding gammaLnOf
-log-gamma = rw (above, tabulated, tabled)
-
 less-zero : (a : Bool) → sub binary64 (zeroOf a) (zeroOf false) ≡ zeroOf a
 unfolding sub add neg
 less-zero true = refl
@@ -78,17 +60,6 @@ unmarked : (a : Bool) → le (zeroOf a) (neg approximationLimit) ≡ false
 unfolding approximationLimit ofBits neg le lt eq
 unmarked true = refl
 unmarked false = refl
-
--- ---- a length that is finite has two numbers for parts
-numbers : (x y : Float) → T (finite (hypotOf x y)) → T (not (isNan x)) × T (not (isNan y))
-unfolding hypotOf isNan
-numbers nan nan h = absurd h
-numbers nan (inf t) h = absurd h
-numbers nan (fin t n d) h = absurd h
-numbers (inf s) y h = absurd h
-numbers (fin s m e) nan h = absurd h
-numbers (fin s m e) (inf t) h = absurd h
-numbers (fin s m e) (fin t n d) h = (tt, tt)
 
 -- ---- 1, with a zero beside it, as a factor
 unit : (w : Complex) (b : Bool) → Something (w .re) → Something (w .im) → productOf w (record { re = one; im = zeroOf b }) ≡ w
@@ -108,14 +79,14 @@ longest-first zero = refl
 longest-first (suc n) = rw (lt-ltb 0 (suc n) (zero-lt-suc n))
 
 -- ---- the visit
-abbrev ground : Bool → Float → Complex → Float → Ground
-ground turned v z m = groundOf false turned v z m
+abbrev ground : Bool → Float → Complex → Float → Setting
+ground turned v z m = settingOf false turned v z m
 
 abbrev pub sumAt : Bool → Float → Complex → Float → Sum
 sumAt turned v z m = sumOf (orderAt v 0) (ground turned v z m .«half_z_sq») (ground turned v z m .«abs_half_z_sq»)
 
 module _ (turned : Bool) (v : Float) (z : Complex) (m : Float) (s : Bool) (nought : v ≡ zeroOf s) where
-  abbrev g : Ground
+  abbrev g : Setting
   g = ground turned v z m
 
   abbrev order : Float
@@ -129,17 +100,15 @@ module _ (turned : Bool) (v : Float) (z : Complex) (m : Float) (s : Bool) (nough
 
   module _ (p : Plain (modulusOf (timesReal z half)) (sum .value)) where
     logarithm : T (finite (g .«ln_half_z» .re)) × T (finite (g .«ln_half_z» .im))
-    unfolding groundOf complexLnOf lnWith argumentOf modulusOf timesReal
-    logarithm =
-        let n = numbers (mul binary64 (z .re) half) (mul binary64 (z .im) half) (positive-finite (modulusOf (timesReal z half)) (p .above)) in
-        (ln-finite (modulusOf (timesReal z half)) (p .holds) (p .above), angle-number-finite (mul binary64 (z .im) half) (mul binary64 (z .re) half) (mul-fits binary64 (z .im) half) (mul-fits binary64 (z .re) half) (n .1) (n .0))
+    unfolding settingOf timesReal
+    logarithm = complex-ln-finite (timesReal z half) (mul-fits binary64 (z .re) half) (mul-fits binary64 (z .im) half) (p .holds) (p .above)
 
     leading : (a : Bool) × (b : Bool) × (leadingOf g order ≡ record { re = zeroOf a; im = zeroOf b })
-    unfolding groundOf leadingOf loweredIf minusReal timesReal
+    unfolding settingOf leadingOf loweredIf minusReal timesReal
     leading =
         let x = mul-zero-float (g .«ln_half_z» .re) false (logarithm .0) in
         let y = mul-zero-float (g .«ln_half_z» .im) false (logarithm .1) in
-        (x .0, y .0, rw (order-is, next-one, log-gamma, x .1, y .1, less-zero (x .0)))
+        (x .0, y .0, rw (order-is, next-one, log-gamma-at-one, x .1, y .1, less-zero (x .0)))
 
     abbrev lead : Bool → Bool → Complex
     lead a b = record { re = zeroOf a; im = zeroOf b }
@@ -163,7 +132,7 @@ module _ (turned : Bool) (v : Float) (z : Complex) (m : Float) (s : Bool) (nough
         ∙ ap (λ (w : Complex). keptOf w (marked a)) (unit (sum .value) b (p .re) (p .im))
 
     stepped : stepOf g 0 startDescent ≡ keptOf (sum .value) (marked (leading .0))
-    unfolding groundOf stepOf stepIf seedOf seedIf startDescent
+    unfolding settingOf stepOf stepIf seedOf seedIf startDescent
     stepped =
         ap (λ (w : Complex). seedIf (le (w .re) (neg exponentLimit)) g order w startDescent) (leading .2)
         ∙ ap (λ (t : Bool). seedIf t g order (lead (leading .0) (leading .1)) startDescent) (within (leading .0))
@@ -189,10 +158,10 @@ module _ (turned : Bool) (v : Float) (z : Complex) (m : Float) (s : Bool) (nough
     unfolding visitOf
     whole = ap visitedOf (walked ∙ ap (λ (t : Descent). withEntry 0 t []) stepped)
 
-    pub alone-visit : visitOf g 1 .visit ≡ record { zeros = 0; stopped = false; place = 0; «longest_sum» = sum .terms; rungs = 0 }
+    alone-visit : visitOf g 1 .visit ≡ record { zeros = 0; stopped = false; place = 0; «longest_sum» = sum .terms; rungs = 0 }
     alone-visit = ap (λ (w : Visited). w .visit) whole ∙ ended (leading .0)
 
-    pub alone-cells : visitOf g 1 .cells ≡ sum .value .re ∷ sum .value .im ∷ []
+    alone-cells : visitOf g 1 .cells ≡ sum .value .re ∷ sum .value .im ∷ []
     alone-cells = ap (λ (w : Visited). w .cells) whole ∙ written (leading .0)
 
 -- ---- the same from the test that the order is 0, and from the sum by another name
@@ -201,19 +170,19 @@ unfolding orderAt ofInt round ofBits
 order-plus v = refl
 
 pub sum-is : (turned : Bool) (v : Float) (z : Complex) (m : Float) → sumOf (add binary64 v (ofBits binary64 0)) (turnedOf turned (squareOf m (timesReal z half))) (halfSquare m) ≡ sumAt turned v z m
-unfolding groundOf
+unfolding settingOf
 sum-is turned v z m = ap (λ (o : Float). sumOf o (turnedOf turned (squareOf m (timesReal z half))) (halfSquare m)) (order-plus v)
 
 module _ (turned : Bool) (v : Float) (z : Complex) (m : Float) (F : T (fits binary64 v)) (e : eq v (ofBits binary64 0) ≡ true) (r : Sum) (is : r ≡ sumAt turned v z m) (p : Plain (modulusOf (timesReal z half)) (r .value)) where
   same : Plain (modulusOf (timesReal z half)) (sumAt turned v z m .value)
   same = subst (λ (q : Sum). Plain (modulusOf (timesReal z half)) (q .value)) is p
 
-  pub alone-visited : record { zeros = 0; stopped = false; place = 0; «longest_sum» = r .terms; rungs = 0 } ≡ visitOf (groundOf false turned v z m) 1 .visit
+  pub alone-visited : record { zeros = 0; stopped = false; place = 0; «longest_sum» = r .terms; rungs = 0 } ≡ visitOf (settingOf false turned v z m) 1 .visit
   alone-visited =
       let n = zero-is v F e in
       ap (λ (q : Sum). record { zeros = 0; stopped = false; place = 0; «longest_sum» = q .terms; rungs = 0 }) is ∙ sym (alone-visit turned v z m (n .0) (n .1) same)
 
-  pub alone-written : r .value .re ∷ r .value .im ∷ [] ≡ visitOf (groundOf false turned v z m) 1 .cells
+  pub alone-written : r .value .re ∷ r .value .im ∷ [] ≡ visitOf (settingOf false turned v z m) 1 .cells
   alone-written =
       let n = zero-is v F e in
       ap (λ (q : Sum). q .value .re ∷ q .value .im ∷ []) is ∙ sym (alone-cells turned v z m (n .0) (n .1) same)

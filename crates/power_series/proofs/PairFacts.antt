@@ -13,16 +13,21 @@ use Rattle.machine.specs.Constants.{exponentLimit, approximationLimit}
 use Rattle.complex.specs.declared.number.Complex.{Complex}
 use Rattle.complex.specs.Arithmetic.{productOf}
 use Rattle.complex.specs.Functions.{complexExpOf}
-use Rattle.power_series.specs.declared.ground.Ground.{Ground}
-use Rattle.power_series.specs.declared.sum.Sum.{Sum}
-use Rattle.power_series.specs.declared.step.Counts.{Counts}
-use Rattle.power_series.specs.declared.step.Descent.{Descent}
-use Rattle.power_series.specs.Orders.{orderAt}
-use Rattle.power_series.specs.Sum.{sumOf}
-use Rattle.power_series.specs.Step.{startDescent, leadingOf, markOf, markedOf, coefficientIf, coefficientOf, isGone, keptOf, goneIf, summedOf, seedIf, seedOf, backwardOf, recurredIf, recurredOf, stepIf, stepOf}
+use Rattle.series_step.specs.declared.setting.Setting.{Setting}
+use Rattle.series_sum.specs.declared.sum.Sum.{Sum}
+use Rattle.series_step.specs.declared.descent.Tally.{Tally}
+use Rattle.series_step.specs.declared.descent.Descent.{Descent}
+use Rattle.series_step.specs.Setting.{orderAt}
+use Rattle.series_sum.specs.Sum.{sumOf}
+use Rattle.series_step.specs.Descent.{startDescent}
+use Rattle.series_step.specs.Leading.{leadingOf}
+use Rattle.series_step.specs.Mark.{markOf, markedOf}
+use Rattle.series_step.specs.Seed.{coefficientIf, coefficientOf, isGone, keptOf, goneIf, summedOf, seedIf, seedOf}
+use Rattle.series_step.specs.Recurred.{backwardOf, recurredIf, recurredOf}
+use Rattle.series_step.specs.Step.{stepIf, stepOf}
 use Rattle.power_series.specs.declared.pair.Pair.{Pair}
 use Rattle.power_series.specs.Visit.{walkOf}
-use Rattle.power_series.specs.Pair.{enteredOf, pairOf, Settled, Begun}
+use Rattle.power_series.specs.shapes.Pair.{enteredOf, pairOf, Settled, Begun}
 use Rattle.power_series.proofs.WalkFacts.{Walking, walking-start, walking-step}
 
 -- ---- far from underflow
@@ -38,7 +43,7 @@ not-lost x h = go (le x (neg exponentLimit)) refl
     go true e = absurd (subst T h (le-trans-float x (neg exponentLimit) (neg approximationLimit) (subst T (sym e) tt) wider))
 
 -- ---- a seed
-module _ (g : Ground) (k : ℕ) (s : Descent) where
+module _ (g : Setting) (k : ℕ) (s : Descent) where
   abbrev order : Float
   order = orderAt (g .order) k
 
@@ -60,7 +65,7 @@ module _ (g : Ground) (k : ℕ) (s : Descent) where
   summed-plainly o h =
       ap (λ (b : Bool). goneIf (isGone b (productOf (sum .value) (coefficientOf lead b))) g order (productOf (sum .value) (coefficientOf lead b)) (markedOf (lead .re) (sum .terms) s)) (unmarked o h)
 
-  pub step-plainly : s .seeded < 2 → s .«near_underflow» ≡ false → le (lead .re) (neg approximationLimit) ≡ false → stepOf g k s ≡ enteredAt
+  step-plainly : s .seeded < 2 → s .«near_underflow» ≡ false → le (lead .re) (neg approximationLimit) ≡ false → stepOf g k s ≡ enteredAt
   unfolding stepOf stepIf seedOf seedIf
   step-plainly n o h = ap (λ (b : Bool). stepIf b g k s) (lt-ltb (s .seeded) 2 n) ∙ ap (λ (b : Bool). seedIf b g order lead s) (not-lost (lead .re) h) ∙ summed-plainly o h
 
@@ -69,7 +74,7 @@ module _ (g : Ground) (k : ℕ) (s : Descent) where
   entered-off o h = unmarked o h
 
 -- ---- the pair
-module _ (g : Ground) (n : ℕ) where
+module _ (g : Setting) (n : ℕ) where
   abbrev pub leadFirst : Complex
   leadFirst = leadingOf g (orderAt (g .order) (n - 1))
 
@@ -129,7 +134,7 @@ module _ (g : Ground) (n : ℕ) where
       }
 
 -- ---- the cells of the pair
-module _ (g : Ground) (n : ℕ) (p : Pair) (b : Begun g n p) (d : List Float) where
+module _ (g : Setting) (n : ℕ) (p : Pair) (b : Begun g n p) (d : List Float) where
   two-less : (n : ℕ) → n - 2 ≡ n - 1 - 1
   two-less n = omega arith
 
@@ -149,8 +154,8 @@ module _ (g : Ground) (n : ℕ) (p : Pair) (b : Begun g n p) (d : List Float) wh
       walking-step g d n (walking-step g d n (walking-start g d n e startDescent refl) (p .higher) (b .higher) (omega arith) start-goes) (p .lower) (b .lower ∙ ap (λ (k : ℕ). stepOf g k (p .higher)) (two-less n)) (omega arith) (b .goes)
 
 -- ---- the recurrence
-module _ (g : Ground) (k : ℕ) (s : Descent) where
-  abbrev counted : Counts
+module _ (g : Setting) (k : ℕ) (s : Descent) where
+  abbrev counted : Tally
   counted = record { zeros = s .counts .zeros; «longest_sum» = s .counts .«longest_sum»; rungs = s .counts .rungs + 1 }
 
   pub settled-step : s .seeded ≡ 2 → stepOf g k s ≡ recurredOf g k s

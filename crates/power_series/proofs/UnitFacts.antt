@@ -16,8 +16,8 @@ use Rattle.laws.proofs.Order.{round-zero}
 use Rattle.laws.proofs.Power.{unique, digits}
 use Rattle.laws.proofs.Zero.{zeroOf, zero-fits}
 use Rattle.laws.proofs.Sign.{add-comm-float}
-use Rattle.power_series.specs.Error.{one}
-use Rattle.power_series.specs.Plain.{Something}
+use Rattle.machine.specs.Small.{one}
+use Rattle.power_series.specs.shapes.Alone.{Something}
 
 -- a value rounds to itself
 own-round : (s : Bool) (m : ℕ) (e : ℤ) → T (fits binary64 (fin s m e)) → round binary64 s (m * up e) (down e) ≡ fin s m e
@@ -70,7 +70,7 @@ some s zero e F h =
     none a b = omega arith
 some s (suc m) e F h = zero-lt-suc m
 
-pub add-zero-float : (x : Float) (t : Bool) → Something x → add binary64 x (zeroOf t) ≡ x
+add-zero-float : (x : Float) (t : Bool) → Something x → add binary64 x (zeroOf t) ≡ x
 unfolding add
 add-zero-float nan t h = absurd (h .bounded)
 add-zero-float (inf s) t h = absurd (h .bounded)

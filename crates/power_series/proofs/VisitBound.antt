@@ -15,10 +15,11 @@ use Rattle.laws.proofs.Order.{not-lt→le, le-total, le-refl-finite}
 use Rattle.laws.proofs.Relative.{nonnegative, nonnegative-finite}
 use Rattle.laws.proofs.Bound.{Up, Lo, Span, up-test, lo-test, up-of, lo-of, lo-at, up-of-le, lo-of-le, up-weaken, lo-weaken, up-finite, lo-bound, span-of, span-mul, span-inv, range-by, range-test, normal-by, up-one, lo-one, mul-up, add-up, add-lo, add-lo-at, mul-up-by, mul-lo-by, mul-up-both, mul-lo-both}
 use Rattle.laws.proofs.Whole.{whole-up, whole-lo}
-use Rattle.laws.proofs.First.{First}
-use Rattle.power_series.specs.Error.{one, sumIsOne, goesOn}
-use Rattle.power_series.specs.Orders.{half, quarter, orderAt, orderPlusOne, halfSquare, beyondSeries}
-use Rattle.power_series.proofs.SumBound.{Summed, one-up, ends}
+use Rattle.machine.specs.Small.{one, half, quarter}
+use Rattle.series_sum.specs.Sum.{sumIsOne}
+use Rattle.series_step.specs.Setting.{orderAt, orderPlusOne, halfSquare}
+use Rattle.power_series.specs.Series.{beyondSeries}
+use Rattle.series_sum.proofs.SumBound.{Summed, one-up}
 
 -- x against u: where no order is seeded yet, and where one is
 abbrev pub Below : Bool → Float → Float → Type 0
@@ -103,11 +104,11 @@ module _ (v : Float) (limit : Up v 1000 1) where
   unfolding orderAt
   order-up k l = add-up binary64 1513 1 (range-test binary64 1513 1 tt) (omega arith) limit (whole-up binary64 k (omega arith))
 
-  pub plus-one-up : (k : ℕ) → k ≤ 512 → Up (orderPlusOne v k) 1515 1
+  plus-one-up : (k : ℕ) → k ≤ 512 → Up (orderPlusOne v k) 1515 1
   unfolding orderPlusOne
   plus-one-up k l = add-up binary64 1515 1 (range-test binary64 1515 1 tt) (lit≤ tt) (order-up k l) one-up
 
-  pub plus-one-lo : (k : ℕ) → k ≤ 512 → Lo (orderPlusOne v k) 1 1
+  plus-one-lo : (k : ℕ) → k ≤ 512 → Lo (orderPlusOne v k) 1 1
   unfolding orderPlusOne round
   plus-one-lo k l =
       add-lo-at binary64 1 1 (lit< tt) (lit< tt) (lit< tt) (orderAt v k) one (lo-at (orderAt v k) 0 1 (order-up k l .sign) (lit< tt) (omega arith)) one-lo (lit≤ tt)
@@ -148,11 +149,11 @@ module _ (v : Float) (limit : Up v 1000 1) where
   u-finite k l = up-finite (plus-one-up k (omega arith))
 
   -- ---- the visit: its start, and its two ways one order down
-  pub top : (n : ℕ) (m : Float) → n ≤ 512 → Up m (2 ^ 16) 1 → beyondSeries v n m ≡ false → Below false (halfSquare m) (orderPlusOne v (n - 1))
+  top : (n : ℕ) (m : Float) → n ≤ 512 → Up m (2 ^ 16) 1 → beyondSeries v n m ≡ false → Below false (halfSquare m) (orderPlusOne v (n - 1))
   unfolding beyondSeries
   top n m l M e = top-of m (orderPlusOne v (n - 1)) M (plus-one-lo (n - 1) (omega arith)) (plus-one-up (n - 1) (omega arith) .sign) e
 
-  pub zeroed : (k : ℕ) (x : Float) → k ≤ 511 → T (nonnegative x) → lt (orderAt v (suc k)) x ≡ false → Below false x (orderPlusOne v k)
+  zeroed : (k : ℕ) (x : Float) → k ≤ 511 → T (nonnegative x) → lt (orderAt v (suc k)) x ≡ false → Below false x (orderPlusOne v k)
   zeroed k x l p e =
       let u = orderPlusOne v k in
       let b : T (le x (orderAt v (suc k))) = not-lt→le (orderAt v (suc k)) x (up-finite (order-up (suc k) (omega arith))) (nonnegative-finite x p) e in
@@ -162,7 +163,7 @@ module _ (v : Float) (limit : Up v 1000 1) where
       compare : (a c n e : ℕ) → 1048574 * a * e ≤ n * (1048576 * c) → 1048577 * a * (4096 * e) ≤ 4097 * n * (1048576 * c)
       compare a c n e h = omega arith
 
-  pub seeded : (k : ℕ) (x : Float) → k ≤ 511 → Below false x (orderPlusOne v (suc k)) → Below true x (orderPlusOne v k)
+  seeded : (k : ℕ) (x : Float) → k ≤ 511 → Below false x (orderPlusOne v (suc k)) → Below true x (orderPlusOne v k)
   seeded k x l b =
       let u = orderPlusOne v k in
       let w = orderPlusOne v (suc k) in
@@ -175,7 +176,7 @@ module _ (v : Float) (limit : Up v 1000 1) where
       compare : (a k c n e : ℕ) → 1048574 * (a + suc k * c) * e ≤ n * (1048576 * c) → 4097 * 1048578 * (a + suc (suc k) * c) * (1024 * e) ≤ 1025 * (n + e) * (4096 * 1048576 * c)
       compare a k c n e h = omega arith
 
-  -- what the sum at an order asks, and so that it ends
+  -- what the sum at an order asks
   pub visited : (k : ℕ) (b : Bool) (x : Float) → k ≤ 511 → Below b x (orderPlusOne v k) → sumIsOne x (orderPlusOne v k) ≡ false → Summed x (orderPlusOne v k)
   visited k b x l h e = record {
     least = plus-one-lo k (omega arith);
@@ -184,14 +185,11 @@ module _ (v : Float) (limit : Up v 1000 1) where
     entered = e;
   }
 
-  pub visited-ends : (k : ℕ) (b : Bool) (x : Float) → k ≤ 511 → Below b x (orderPlusOne v k) → sumIsOne x (orderPlusOne v k) ≡ false → (n : ℕ) × (n ≤ 19) × First false (goesOn x (orderPlusOne v k)) n
-  visited-ends k b x l h e = ends x (orderPlusOne v k) (visited k b x l h e)
-
 -- ---- the orders that the visit of n orders from v up, at modulus m, reaches; the second index says whether one is seeded
-pub data Reached (v : Float) (n : ℕ) (m : Float) : ℕ → Bool → Type 0 where
-  start : beyondSeries v n m ≡ false → Reached v n m (n - 1) false
-  past-zero : {k : ℕ} {b : Bool} → lt (orderAt v (suc k)) (halfSquare m) ≡ false → Reached v n m (suc k) b → Reached v n m k b
-  past-seed : {k : ℕ} → Reached v n m (suc k) false → Reached v n m k true
+pub data Arrives (v : Float) (n : ℕ) (m : Float) : ℕ → Bool → Type 0 where
+  start : beyondSeries v n m ≡ false → Arrives v n m (n - 1) false
+  past-zero : {k : ℕ} {b : Bool} → lt (orderAt v (suc k)) (halfSquare m) ≡ false → Arrives v n m (suc k) b → Arrives v n m k b
+  past-seed : {k : ℕ} → Arrives v n m (suc k) false → Arrives v n m k true
 
 module _ (v : Float) (limit : Up v 1000 1) (n : ℕ) (few : n ≤ 512) (m : Float) (bound : Up m (2 ^ 16) 1) where
   square-sign : T (nonnegative (halfSquare m))
@@ -200,25 +198,17 @@ module _ (v : Float) (limit : Up v 1000 1) (n : ℕ) (few : n ≤ 512) (m : Floa
       let h : Up (mul binary64 m half) (2 ^ 16) 1 = mul-up binary64 (2 ^ 16) 1 (range-test binary64 (2 ^ 16) 1 tt) (lit≤ tt) bound half-up in
       mul-up binary64 (2 ^ 33) 1 (range-test binary64 (2 ^ 33) 1 tt) (lit≤ tt) h h .sign
 
-  pub reached-low : {k : ℕ} {b : Bool} → Reached v n m k b → k ≤ 511
-  reached-low (start e) = omega arith
-  reached-low (past-zero e r) = let l = reached-low r in omega arith
-  reached-low (past-seed r) = let l = reached-low r in omega arith
+  pub arrives-low : {k : ℕ} {b : Bool} → Arrives v n m k b → k ≤ 511
+  arrives-low (start e) = omega arith
+  arrives-low (past-zero e r) = let l = arrives-low r in omega arith
+  arrives-low (past-seed r) = let l = arrives-low r in omega arith
 
-  pub reached-below : {k : ℕ} {b : Bool} → Reached v n m k b → Below b (halfSquare m) (orderPlusOne v k)
-  reached-below (start e) = top v limit n m few bound e
-  reached-below (past-zero {k} {b} e r) = only b (halfSquare m) (orderPlusOne v k) (zeroed v limit k (halfSquare m) (let l = reached-low r in omega arith) square-sign e)
-  reached-below (past-seed {k} r) = seeded v limit k (halfSquare m) (let l = reached-low r in omega arith) (reached-below r)
+  pub arrives-below : {k : ℕ} {b : Bool} → Arrives v n m k b → Below b (halfSquare m) (orderPlusOne v k)
+  arrives-below (start e) = top v limit n m few bound e
+  arrives-below (past-zero {k} {b} e r) = only b (halfSquare m) (orderPlusOne v k) (zeroed v limit k (halfSquare m) (let l = arrives-low r in omega arith) square-sign e)
+  arrives-below (past-seed {k} r) = seeded v limit k (halfSquare m) (let l = arrives-low r in omega arith) (arrives-below r)
 
-  -- a sum that is entered at such an order leaves by its own test, after 19 turns at most
-  pub reached-ends : {k : ℕ} {b : Bool} → Reached v n m k b → sumIsOne (halfSquare m) (orderPlusOne v k) ≡ false → (t : ℕ) × (t ≤ 19) × First false (goesOn (halfSquare m) (orderPlusOne v k)) t
-  reached-ends {k} {b} r e = visited-ends v limit k b (halfSquare m) (reached-low r) (reached-below r) e
-
--- ---- the limits as the domain has them: orders to 1000, parts to 32768 and so moduli to 46341
+-- ---- the limit of orders as the domain has it
 pub order-limit : (v : Float) → T (nonnegative v) → T (le v (ofBits binary64 0x408F400000000000)) → Up v 1000 1
 unfolding ofBits
 order-limit v p h = up-of-le v (ofBits binary64 0x408F400000000000) p h (up-test (ofBits binary64 0x408F400000000000) 1000 1 tt)
-
-pub modulus-limit : (m : Float) → T (nonnegative m) → T (le m (ofBits binary64 0x40E6A0A000000000)) → Up m (2 ^ 16) 1
-unfolding ofBits
-modulus-limit m p h = up-of-le m (ofBits binary64 0x40E6A0A000000000) p h (up-test (ofBits binary64 0x40E6A0A000000000) (2 ^ 16) 1 tt)

@@ -12,13 +12,15 @@ use Rattle.laws.specs.Run.{run}
 use Rattle.laws.proofs.Run.{run-on, run-stop, run-out, run-ends}
 use Rattle.laws.proofs.Part.{front-length, put-front}
 use Rattle.laws.proofs.Seam.{Down, down-start, down-store, down-drop}
-use Rattle.power_series.specs.declared.ground.Ground.{Ground}
-use Rattle.power_series.specs.declared.step.Descent.{Descent}
-use Rattle.power_series.specs.declared.visit.Reached.{Reached}
-use Rattle.power_series.specs.Step.{startDescent, stepOf}
-use Rattle.power_series.specs.Pair.{Settled, walkFrom}
-use Rattle.power_series.specs.Visit.{Walk, startWalk, isStopped, withEntry, nextWalk, walkOf, visitedOf, concludedOf, visitOf}
-use Rattle.power_series.proofs.StepFacts.{zeros-grow, rungs-grow}
+use Rattle.series_step.specs.declared.setting.Setting.{Setting}
+use Rattle.series_step.specs.declared.descent.Descent.{Descent}
+use Rattle.power_series.specs.declared.visit.Standing.{Standing}
+use Rattle.series_step.specs.Descent.{startDescent}
+use Rattle.series_step.specs.Step.{stepOf}
+use Rattle.power_series.specs.shapes.Pair.{Settled, walkFrom}
+use Rattle.power_series.specs.Visit.{Walk, startWalk, isStopped, withEntry, nextWalk, walkOf, visitedOf, visitOf}
+use Rattle.power_series.specs.shapes.Visit.{concludedOf}
+use Rattle.series_step.proofs.StepFacts.{zeros-grow, rungs-grow}
 
 -- nothing is written yet above the n-th cell
 down-from : (n : ℕ) (d : List Float) → n ≤ length d → Down d (drop n d) n d
@@ -30,14 +32,14 @@ down-from n d h = record { count = count; same = refl; is = sym (take-append-dro
 abbrev pub stopping : ℕ → Walk → Bool
 stopping i w = isStopped w
 
-abbrev pub stepping : Ground → ℕ → Walk → Walk
+abbrev pub stepping : Setting → ℕ → Walk → Walk
 stepping g i w = nextWalk g w
 
 abbrev pub at : ℕ → Descent → List Float → Walk
-at left state cells = record { reached = record { left = left; state = state }; cells = cells }
+at left state cells = record { standing = record { left = left; state = state }; cells = cells }
 
 -- `left` of n orders are left, of the buffer d the cells above them are written, and the walk ends as the whole one does
-pub record Walking (g : Ground) (whole : Walk) (d : List Float) (n left : ℕ) (state : Descent) (out : List Float) : Type 0 where
+pub record Walking (g : Setting) (whole : Walk) (d : List Float) (n left : ℕ) (state : Descent) (out : List Float) : Type 0 where
   pub cells : List Float
   pub down : Down d cells (left * 2) out
   pub low : left ≤ n
@@ -45,7 +47,7 @@ pub record Walking (g : Ground) (whole : Walk) (d : List Float) (n left : ℕ) (
   pub rungs : state .counts .rungs + left ≤ n
   pub rest : whole ≡ run stopping (stepping g) left (n - left) (at left state cells)
 
-module _ (g : Ground) (d : List Float) (n : ℕ) where
+module _ (g : Setting) (d : List Float) (n : ℕ) where
   pub walking-start : length d ≡ n * 2 → (state : Descent) → state ≡ startDescent → Walking g (walkOf g n) d n n state d
   unfolding walkOf startWalk startDescent
   walking-start e state s = subst (λ (t : Descent). Walking g (walkOf g n) d n n t d) (sym s) (record {
@@ -121,18 +123,18 @@ module _ (g : Ground) (d : List Float) (n : ℕ) where
     walking-whole = w .rest ∙ ap (λ (l : List Float). run stopping (stepping g) left (n - left) (at left state l)) (sym (down-drop (w .down)))
 
     -- the answer of the loop
-    pub walking-reached : whole ≡ at left state (w .cells) → record { left = left; state = state } ≡ whole .reached
-    walking-reached e = ap (λ (q : Walk). q .reached) (sym e)
+    pub walking-standing : whole ≡ at left state (w .cells) → record { left = left; state = state } ≡ whole .standing
+    walking-standing e = ap (λ (q : Walk). q .standing) (sym e)
 
     pub walking-cells : whole ≡ at left state (w .cells) → drop (left * 2) out ≡ whole .cells
     walking-cells e = down-drop (w .down) ∙ ap (λ (q : Walk). q .cells) (sym e)
 
 -- no more orders are left than there were
-pub walk-left : (g : Ground) (n : ℕ) → walkOf g n .reached .left ≤ n
+pub walk-left : (g : Setting) (n : ℕ) → walkOf g n .standing .left ≤ n
 unfolding walkOf startWalk nextWalk withEntry
-walk-left g n = run-ends stopping (stepping g) (λ i w. w .reached .left ≤ n) keep n 0 (startWalk n) (le-refl n) .holds
+walk-left g n = run-ends stopping (stepping g) (λ i w. w .standing .left ≤ n) keep n 0 (startWalk n) (le-refl n) .holds
   where
-    keep : (i : ℕ) (w : Walk) → isStopped w ≡ false → w .reached .left ≤ n → nextWalk g w .reached .left ≤ n
+    keep : (i : ℕ) (w : Walk) → isStopped w ≡ false → w .standing .left ≤ n → nextWalk g w .standing .left ≤ n
     keep i w e h = omega arith
 
 -- the first a cells filled with one value, the others as they are
@@ -143,7 +145,7 @@ below-filled a xs ys zs r q h f e g =
     ∙ ap (λ (l : List Float). replicate a q ++ l) g
 
 -- the record and the cells of a visit that ended at r
-pub concluded-visit : (g : Ground) (n : ℕ) (r : Reached) (out : List Float) → r ≡ walkOf g n .reached → drop (r .left * 2) out ≡ walkOf g n .cells → concludedOf r out ≡ visitOf g n
+pub concluded-visit : (g : Setting) (n : ℕ) (r : Standing) (out : List Float) → r ≡ walkOf g n .standing → drop (r .left * 2) out ≡ walkOf g n .cells → concludedOf r out ≡ visitOf g n
 unfolding concludedOf visitOf
 concluded-visit g n r out e f =
-    ap (λ (l : List Float). visitedOf (record { reached = r; cells = l })) f ∙ ap (λ (q : Reached). visitedOf (record { reached = q; cells = walkOf g n .cells })) e
+    ap (λ (l : List Float). visitedOf (record { standing = r; cells = l })) f ∙ ap (λ (q : Standing). visitedOf (record { standing = q; cells = walkOf g n .cells })) e

@@ -3,19 +3,20 @@
 // the visit itself is taken.
 ghost use mathlib.Core.Path.{_≡_};
 ghost use mathlib.Core.Bool.{true, false};
-ghost use lib.Ieee.{binary64, ofBits, eq};
+ghost use lib.Ieee.{eq};
 ghost use lib.ListN.{length};
-ghost use Rattle.power_series.specs.Ground.{groundOf};
-ghost use Rattle.power_series.specs.Plain.{Something, Plain};
+ghost use Rattle.machine.specs.Small.{nothing};
+ghost use Rattle.series_step.specs.Setting.{settingOf};
 ghost use Rattle.power_series.specs.Visit.{visitOf};
-use crate::ground::prepare;
-use crate::ground::square_of;
-use crate::ground::turn;
-use crate::sum::single_n_iteration;
+ghost use Rattle.power_series.specs.shapes.Alone.{Something, Plain};
 use crate::visit::Visit;
 use crate::visit::stepwise;
 use complex::number::Complex;
 use machine::finite::is_finite;
+use series_step::setting::prepare;
+use series_step::setting::square_of;
+use series_step::setting::turn;
+use series_sum::sum::single_n_iteration;
 
 fn is_something(x: f64) -> bool
     ensures { λ r. ⌜ (r ≡ true → Something x) ⌝ }
@@ -41,8 +42,9 @@ fn is_plain(modulus: f64, value: Complex) -> bool
 }
 
 pub fn alone(turned: bool, order: f64, z: Complex, modulus: f64, out: &mut [f64]) -> Visit
-    requires { ⌜ (eq order (ofBits binary64 0) ≡ true) × (length (now out) ≡ 2) ⌝ }
-    ensures { λ r. ⌜ (r ≡ visitOf (groundOf false turned order z modulus) 1 .visit) × (now (out .exit) ≡ visitOf (groundOf false turned order z modulus) 1 .cells) ⌝ }
+    requires { ⌜ (eq order nothing ≡ true) × (length (now out) ≡ 2) ⌝ }
+    ensures { λ r. ⌜ (r ≡ visitOf (settingOf false turned order z modulus) 1 .visit)
+        × (now (out .exit) ≡ visitOf (settingOf false turned order z modulus) 1 .cells) ⌝ }
 {
     let half = z.times_real(0.5);
     let half_modulus = modulus * 0.5;

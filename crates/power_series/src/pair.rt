@@ -1,28 +1,29 @@
 // The visit where its two highest orders are both seeded far from underflow, as nearly all are: their sums side by side, and the recurrence
-// below them, which has nothing left to test. Any other visit goes order by order. Promised: visitOf of specs/Visit.antt, record and cells.
+// below them, which has nothing left to test. Any other visit goes order by order. Promised: visitOf of specs/Visit.antt, record and cells;
+// the shapes on the way are those of specs/shapes/Pair.antt.
 ghost use mathlib.Core.Path.{_≡_};
 ghost use mathlib.Core.Bool.{false};
 ghost use Prim.Native.Nat.{_+_, _-_, _*_, _/_, _%_, _^_, _≤_, _<_};
 ghost use lib.ListN.{length, drop};
-ghost use Rattle.power_series.specs.Step.{recurredOf};
+ghost use Rattle.series_step.specs.Recurred.{recurredOf};
 ghost use Rattle.power_series.specs.Visit.{walkOf, visitOf};
-ghost use Rattle.power_series.specs.Pair.{enteredOf, pairOf, Settled, Begun, walkFrom};
-use crate::ground::Ground;
-use crate::step::Counts;
-use crate::step::Descent;
-use crate::step::backward;
-use crate::step::kept;
-use crate::step::leading;
-use crate::step::marked;
-use crate::step::start;
-use crate::sum::Sum;
-use crate::sums::two_sums;
-use crate::visit::Reached;
+ghost use Rattle.power_series.specs.shapes.Pair.{enteredOf, pairOf, Settled, Begun, walkFrom};
+use crate::visit::Standing;
 use crate::visit::Visit;
 use crate::visit::concluded;
 use crate::visit::stepwise;
 use complex::number::Complex;
 use machine::constants::Machine;
+use series_step::descent::Descent;
+use series_step::descent::Tally;
+use series_step::descent::start;
+use series_step::leading::leading;
+use series_step::mark::marked;
+use series_step::recurred::backward;
+use series_step::seed::kept;
+use series_step::setting::Setting;
+use series_sum::sum::Sum;
+use series_sum::sums::two_sums;
 
 // The states after the highest order and after the next.
 pub struct Pair {
@@ -40,7 +41,7 @@ fn entered(lead: Complex, whole: Complex, sum: Sum, s: Descent) -> Descent
 }
 
 // The exponentials come first: the sums, whose ends cannot be foreseen, then run beside them.
-fn seeds(g: Ground, n: u32, first: Complex, second: Complex) -> Pair
+fn seeds(g: Setting, n: u32, first: Complex, second: Complex) -> Pair
     requires { ⌜ 1 < n ⌝ }
     ensures { λ r. ⌜ r ≡ pairOf g n first second ⌝ }
 {
@@ -60,7 +61,7 @@ fn seeds(g: Ground, n: u32, first: Complex, second: Complex) -> Pair
     Pair { higher, lower }
 }
 
-fn rung(g: Ground, k: u32, s: Descent) -> Descent
+fn rung(g: Setting, k: u32, s: Descent) -> Descent
     requires { ⌜ (k + 1 < 2 ^ 32) × (s .counts .rungs + 1 < 2 ^ 32) × (s .«near_underflow» ≡ false) ⌝ }
     ensures { λ r. ⌜ r ≡ recurredOf g k s ⌝ }
 {
@@ -73,7 +74,7 @@ fn rung(g: Ground, k: u32, s: Descent) -> Descent
         y_k_plus_1: next,
         above: next,
         scale_factor: s.scale_factor,
-        counts: Counts {
+        counts: Tally {
             zeros: c.zeros,
             longest_sum: c.longest_sum,
             rungs: c.rungs + 1,
@@ -85,9 +86,13 @@ fn rung(g: Ground, k: u32, s: Descent) -> Descent
 }
 
 // Two orders at a time, so that a value stays in the registers in which it was worked out.
-fn two_by_two(g: Ground, most: usize, settled: Descent, out: &mut [f64]) -> Reached
-    requires { ⌜ (length (now out) % 2 ≡ 0) × (length (now out) ≤ 1024) × (most % 2 ≡ 0) × Settled (length (now out) / 2) most settled ⌝ }
-    ensures { λ r. ⌜ (r ≡ walkFrom g (length (now (out .entry)) / 2) most settled (drop (most * 2) (now (out .entry))) .reached) × (drop (r .left * 2) (now (out .exit)) ≡ walkFrom g (length (now (out .entry)) / 2) most settled (drop (most * 2) (now (out .entry))) .cells) ⌝ }
+fn two_by_two(g: Setting, most: usize, settled: Descent, out: &mut [f64]) -> Standing
+    requires { ⌜ (length (now out) % 2 ≡ 0)
+        × (length (now out) ≤ 1024)
+        × (most % 2 ≡ 0)
+        × Settled (length (now out) / 2) most settled ⌝ }
+    ensures { λ r. ⌜ (r ≡ walkFrom g (length (now (out .entry)) / 2) most settled (drop (most * 2) (now (out .entry))) .standing)
+        × (drop (r .left * 2) (now (out .exit)) ≡ walkFrom g (length (now (out .entry)) / 2) most settled (drop (most * 2) (now (out .entry))) .cells) ⌝ }
 {
     let mut left = most;
     let mut state = settled;
@@ -103,28 +108,35 @@ fn two_by_two(g: Ground, most: usize, settled: Descent, out: &mut [f64]) -> Reac
         out[left * 2 + 1] = b.im;
         out[left * 2] = b.re;
     }
-    Reached { left, state }
+    Standing { left, state }
 }
 
 // An odd order goes first, by itself.
-fn evened(g: Ground, left: usize, s: Descent, out: &mut [f64]) -> Reached
+fn evened(g: Setting, left: usize, s: Descent, out: &mut [f64]) -> Standing
     requires { ⌜ (length (now out) % 2 ≡ 0) × (length (now out) ≤ 1024) × Settled (length (now out) / 2) left s ⌝ }
-    ensures { λ r. ⌜ (r .left % 2 ≡ 0) × Settled (length (now (out .entry)) / 2) (r .left) (r .state) × (walkFrom g (length (now (out .entry)) / 2) left s (drop (left * 2) (now (out .entry))) ≡ walkFrom g (length (now (out .entry)) / 2) (r .left) (r .state) (drop (r .left * 2) (now (out .exit)))) ⌝ }
+    ensures { λ r. ⌜ (r .left % 2 ≡ 0)
+        × Settled (length (now (out .entry)) / 2) (r .left) (r .state)
+        × (walkFrom g (length (now (out .entry)) / 2) left s (drop (left * 2) (now (out .entry)))
+        ≡ walkFrom g (length (now (out .entry)) / 2) (r .left) (r .state) (drop (r .left * 2) (now (out .exit)))) ⌝ }
 {
     if left % 2 == 0 {
-        return Reached { left, state: s };
+        return Standing { left, state: s };
     }
     let k = left - 1;
     let state = rung(g, k as u32, s);
     let a = state.above;
     out[k * 2 + 1] = a.im;
     out[k * 2] = a.re;
-    Reached { left: k, state }
+    Standing { left: k, state }
 }
 
-fn paired(g: Ground, p: Pair, out: &mut [f64]) -> Reached
-    requires { ⌜ (length (now out) % 2 ≡ 0) × (length (now out) ≤ 1024) × (1 < length (now out) / 2) × Begun g (length (now out) / 2) p ⌝ }
-    ensures { λ r. ⌜ (r ≡ walkOf g (length (now (out .entry)) / 2) .reached) × (drop (r .left * 2) (now (out .exit)) ≡ walkOf g (length (now (out .entry)) / 2) .cells) ⌝ }
+fn paired(g: Setting, p: Pair, out: &mut [f64]) -> Standing
+    requires { ⌜ (length (now out) % 2 ≡ 0)
+        × (length (now out) ≤ 1024)
+        × (1 < length (now out) / 2)
+        × Begun g (length (now out) / 2) p ⌝ }
+    ensures { λ r. ⌜ (r ≡ walkOf g (length (now (out .entry)) / 2) .standing)
+        × (drop (r .left * 2) (now (out .exit)) ≡ walkOf g (length (now (out .entry)) / 2) .cells) ⌝ }
 {
     let higher = p.higher;
     let lower = p.lower;
@@ -154,9 +166,10 @@ fn copied(v: Visit) -> Visit
 }
 
 // The record of the other way is copied field by field: as a whole it would draw the record of this one through memory.
-pub fn downward(g: Ground, out: &mut [f64]) -> Visit
+pub fn downward(g: Setting, out: &mut [f64]) -> Visit
     requires { ⌜ (length (now out) % 2 ≡ 0) × (length (now out) ≤ 1024) ⌝ }
-    ensures { λ r. ⌜ (r ≡ visitOf g (length (now (out .entry)) / 2) .visit) × (now (out .exit) ≡ visitOf g (length (now (out .entry)) / 2) .cells) ⌝ }
+    ensures { λ r. ⌜ (r ≡ visitOf g (length (now (out .entry)) / 2) .visit)
+        × (now (out .exit) ≡ visitOf g (length (now (out .entry)) / 2) .cells) ⌝ }
 {
     let n = (out.len() / 2) as u32;
     if n < 2 {

@@ -1,5 +1,5 @@
 // Arguments below the underflow limit: the series is its leading term, which is 1 at order 0 and underflows at any other.
-// From src/amos/power_series.rs, i_power_series. Promised: tinyOf of specs/Tiny.antt, record and cells.
+// From src/amos/power_series.rs, i_power_series (ZSERI, from 150 to 180). Promised: tinyOf of specs/Tiny.antt, record and cells.
 ghost use mathlib.Core.Path.{_≡_};
 ghost use Prim.Native.Nat.{_/_, _%_, _≤_, _<_};
 ghost use lib.ListN.{length};
@@ -32,7 +32,8 @@ fn zeros(order: f64, modulus: f64, n: u32) -> u32
 
 pub fn tiny(order: f64, modulus: f64, out: &mut [f64]) -> Visit
     requires { ⌜ (0 < length (now out)) × (length (now out) % 2 ≡ 0) × (length (now out) ≤ 1024) ⌝ }
-    ensures { λ r. ⌜ (r ≡ tinyOf order modulus (length (now (out .entry)) / 2) .visit) × (now (out .exit) ≡ tinyOf order modulus (length (now (out .entry)) / 2) .cells) ⌝ }
+    ensures { λ r. ⌜ (r ≡ tinyOf order modulus (length (now (out .entry)) / 2) .visit)
+        × (now (out .exit) ≡ tinyOf order modulus (length (now (out .entry)) / 2) .cells) ⌝ }
 {
     let n = out.len() / 2;
     fill(out, 0.0);

@@ -36,12 +36,17 @@ loop-less c = omega arith
 
 loop-again : tie.Need-loop-again Inv-loop μ-loop
 unfolding withFactor
-loop-again c = (omega arith, ap (withFactor (c .before .before .before .args .z)) (c .before .before .loop .inv .1) ∙ one-more (c .before .before .before .args .z) (c .before .before .loop .count))
+loop-again c =
+    let d = c .before .before in
+    let z = d .before .args .z in
+    (omega arith, ap (withFactor z) (d .loop .inv .1) ∙ one-more z (d .loop .count))
 
 returns : tie.Need-returns Inv-loop μ-loop
 returns c =
-    let e : c .before .loop .count ≡ c .before .before .args .wanted = omega arith in
-    c .before .loop .inv .1 ∙ ap (factorsOf (c .before .before .args .z)) e
+    let l = c .before .loop in
+    let a = c .before .before .args in
+    let e : l .count ≡ a .wanted = omega arith in
+    l .inv .1 ∙ ap (factorsOf (a .z)) e
 
 pub factors-spec : {M : Type 1} → statement M
 factors-spec =

@@ -21,29 +21,39 @@ is-tabulated-requires c κs = search needs
 
 tabulated-requires : tie.Need-tabulated-requires
 tabulated-requires c κs =
-    let t : T (isTabulated (c .before .before .before .args .x)) = subst T (sym (sym (c .before .is-tabulated .ensures) ∙ c .if2 .taken)) tt in
-    (tabulated-positive (c .before .before .before .args .x) (c .before .before .if1 .left) t, t)
+    let d = c .before .before in
+    let x = d .before .args .x in
+    let t : T (isTabulated x) = subst T (sym (sym (c .before .is-tabulated .ensures) ∙ c .if2 .taken)) tt in
+    (tabulated-positive x (d .if1 .left) t, t)
 
 returns-2 : tie.Need-returns-2
 unfolding gammaLnOf
-returns-2 c = simp (c .tabulated .ensures, c .before .before .before .if1 .left, sym (c .before .before .is-tabulated .ensures) ∙ c .before .if2 .taken)
+returns-2 c =
+    let d = c .before .before in
+    simp (c .tabulated .ensures, d .before .if1 .left, sym (d .is-tabulated .ensures) ∙ c .before .if2 .taken)
 
 shifted-requires : tie.Need-shifted-requires
 unfolding gammaLnMinimum
 shifted-requires c κs =
-    let t : T (lt (c .before .before .before .before .args .x) gammaLnMinimum) = subst T (sym (c .if3 .taken)) tt in
-    (below-positive (c .before .before .before .before .args .x) (c .before .before .before .if1 .left) t, t)
+    let d = c .before .before .before in
+    let x = d .before .args .x in
+    let t : T (lt x gammaLnMinimum) = subst T (sym (c .if3 .taken)) tt in
+    (below-positive x (d .if1 .left) t, t)
 
 returns-3 : tie.Need-returns-3
 unfolding gammaLnOf gammaLnMinimum
-returns-3 c = simp (c .shifted .ensures, c .before .before .before .before .if1 .left, sym (c .before .before .before .is-tabulated .ensures) ∙ c .before .before .if2 .left, c .before .if3 .taken)
+returns-3 c =
+    let d = c .before .before .before in
+    simp (c .shifted .ensures, d .before .if1 .left, sym (d .is-tabulated .ensures) ∙ c .before .before .if2 .left, c .before .if3 .taken)
 
 stirling-requires : tie.Need-stirling-requires
 stirling-requires c κs = search needs
 
 returns-4 : tie.Need-returns-4
 unfolding gammaLnOf gammaLnMinimum
-returns-4 c = simp (c .stirling .ensures, c .before .before .before .before .if1 .left, sym (c .before .before .before .is-tabulated .ensures) ∙ c .before .before .if2 .left, c .before .if3 .left)
+returns-4 c =
+    let d = c .before .before .before in
+    simp (c .stirling .ensures, d .before .if1 .left, sym (d .is-tabulated .ensures) ∙ c .before .before .if2 .left, c .before .if3 .left)
 
 pub gamma-ln-spec : {M : Type 1} → statement M
 gamma-ln-spec =

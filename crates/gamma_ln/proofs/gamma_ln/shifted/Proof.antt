@@ -15,13 +15,18 @@ stirling-requires c κs = search needs
 
 float-to-int-wanted : tie.Need-float-to-int-wanted
 unfolding shiftOf gammaLnMinimum
-float-to-int-wanted c = rw (c .before .before .round .ensures) (shift-cast (c .before .before .before .args .x) (c .before .before .before .pre .0) (c .before .before .before .pre .1))
+float-to-int-wanted c =
+    let d = c .before .before in
+    let s = d .before in
+    rw (d .round .ensures) (shift-cast (s .args .x) (s .pre .0) (s .pre .1))
 
 returns : tie.Need-returns
 unfolding shiftedOf shiftOf gammaLnMinimum
 returns c =
-    let t = simp (c .before .before .before .round .ensures) at (c .if1 .taken) in
-    simp (c .before .before .stirling .ensures, c .before .before .before .round .ensures, eq-eqb _ _ t)
+    let d = c .before .before in
+    let r = d .before .round in
+    let t = simp (r .ensures) at (c .if1 .taken) in
+    simp (d .stirling .ensures, r .ensures, eq-eqb _ _ t)
 
 factors-requires : tie.Need-factors-requires
 factors-requires c κs = search needs
@@ -32,14 +37,11 @@ ln-requires c κs = search needs
 returns-2 : tie.Need-returns-2
 unfolding shiftedOf shiftOf gammaLnMinimum
 returns-2 c =
-    let t = simp (c .before .before .before .before .before .before .round .ensures) at (c .before .before .before .if1 .left) in
-    simp (
-      c .before .ln .ensures,
-      c .before .before .factors .ensures,
-      c .before .before .before .before .before .stirling .ensures,
-      c .before .before .before .before .before .before .round .ensures,
-      ne-eqb _ _ t,
-    )
+    let b = c .before .before in
+    let d = b .before .before .before in
+    let r = d .before .round in
+    let t = simp (r .ensures) at (b .before .if1 .left) in
+    simp (c .before .ln .ensures, b .factors .ensures, d .stirling .ensures, r .ensures, ne-eqb _ _ t)
 
 pub shifted-spec : {M : Type 1} → statement M
 shifted-spec =

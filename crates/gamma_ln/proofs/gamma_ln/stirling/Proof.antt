@@ -1,5 +1,5 @@
 -- `gamma_ln::gamma_ln::stirling` meets its contract. Assumes nothing.
-use Rattle.gamma_ln.specs.GammaLn.{stirlingOf}
+use Rattle.gamma_ln.specs.GammaLn.{lnTwoPi, stirlingOf}
 use borrow.Author.Needs.{needs}
 use Rattle.gamma_ln.proofs.gamma_ln.stirling.Statement.{statement}
 use Rattle.gamma_ln.proofs.gamma_ln.stirling.Tie as tie
@@ -11,7 +11,7 @@ ln-requires : tie.Need-ln-requires
 ln-requires c κs = search needs
 
 returns : tie.Need-returns
-unfolding stirlingOf
+unfolding lnTwoPi stirlingOf
 returns c = simp (c .before .ln .ensures, c .before .before .series .ensures)
 
 pub stirling-spec : {M : Type 1} → statement M

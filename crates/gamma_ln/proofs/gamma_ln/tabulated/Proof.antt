@@ -5,10 +5,14 @@ use Rattle.gamma_ln.proofs.gamma_ln.tabulated.Statement.{statement}
 use Rattle.gamma_ln.proofs.gamma_ln.tabulated.Tie as tie
 
 float-to-int-whole-value : tie.Need-float-to-int-whole-value
-float-to-int-whole-value c = index-cast (c .before .args .x) (c .row-known .given) (c .before .pre .0) (c .before .pre .1) .0
+float-to-int-whole-value c =
+    let s = c .before in
+    index-cast (s .args .x) (c .row-known .given) (s .pre .0) (s .pre .1) .0
 
 whole-value-requires : tie.Need-whole-value-requires
-whole-value-requires c κs = index-cast (c .before .args .x) (c .row-known .given) (c .before .pre .0) (c .before .pre .1) .1
+whole-value-requires c κs =
+    let s = c .before in
+    index-cast (s .args .x) (c .row-known .given) (s .pre .0) (s .pre .1) .1
 
 returns : tie.Need-returns
 unfolding tabulatedOf

@@ -34,12 +34,14 @@ is-below-requires c κs = search needs
 returns : tie.Need-returns Inv-loop μ-loop
 unfolding isDone nextTerm nextPower
 returns c =
-    let stop = isDone (c .before .before .before .before .before .args .square) (c .before .before .before .before .before .args .bound) in
-    let step = withNext (c .before .before .before .before .before .args .square) in
-    let n = c .before .before .before .before .loop .count in
-    let s : Terms = record { power = c .before .before .before .before .loop .power; sum = c .before .before .before .before .loop .sum; count = n } in
-    let e : stop n s ≡ true = simp (← c .before .before .coefficient .ensures, ← c .before .is-below .ensures, c .if1 .taken) in
-    sym (c .before .before .before .before .loop .inv .1 ∙ run-stop stop step (22 - n) n s e)
+    let d = c .before .before in
+    let l = d .before .before .loop in
+    let a = d .before .before .before .args in
+    let stop = isDone (a .square) (a .bound) in
+    let n = l .count in
+    let s : Terms = record { power = l .power; sum = l .sum; count = n } in
+    let e : stop n s ≡ true = simp (← d .coefficient .ensures, ← c .before .is-below .ensures, c .if1 .taken) in
+    sym (l .inv .1 ∙ run-stop stop (withNext (a .square)) (22 - n) n s e)
 
 add-count : tie.Need-add-count Inv-loop μ-loop
 add-count c = search needs
@@ -50,22 +52,24 @@ loop-less c = omega arith
 loop-again : tie.Need-loop-again Inv-loop μ-loop
 unfolding isDone withNext nextTerm nextPower
 loop-again c =
-    let stop = isDone (c .before .before .before .before .before .args .square) (c .before .before .before .before .before .args .bound) in
-    let step = withNext (c .before .before .before .before .before .args .square) in
-    let n = c .before .before .before .before .loop .count in
-    let s : Terms = record { power = c .before .before .before .before .loop .power; sum = c .before .before .before .before .loop .sum; count = n } in
-    let e : stop n s ≡ false = simp (← c .before .before .coefficient .ensures, ← c .before .is-below .ensures, c .if1 .left) in
+    let d = c .before .before in
+    let l = d .before .before .loop in
+    let a = d .before .before .before .args in
+    let stop = isDone (a .square) (a .bound) in
+    let n = l .count in
+    let s : Terms = record { power = l .power; sum = l .sum; count = n } in
+    let e : stop n s ≡ false = simp (← d .coefficient .ensures, ← c .before .is-below .ensures, c .if1 .left) in
     let h : n < 22 = omega arith in
-    (omega arith, simp (c .before .before .coefficient .ensures) (c .before .before .before .before .loop .inv .1 ∙ run-next stop step 22 n s h e))
+    (omega arith, simp (d .coefficient .ensures) (l .inv .1 ∙ run-next stop (withNext (a .square)) 22 n s h e))
 
 returns-2 : tie.Need-returns-2 Inv-loop μ-loop
 returns-2 c =
-    let stop = isDone (c .before .before .args .square) (c .before .before .args .bound) in
-    let step = withNext (c .before .before .args .square) in
-    let n = c .before .loop .count in
-    let s : Terms = record { power = c .before .loop .power; sum = c .before .loop .sum; count = n } in
+    let l = c .before .loop in
+    let a = c .before .before .args in
+    let n = l .count in
+    let s : Terms = record { power = l .power; sum = l .sum; count = n } in
     let h : 22 ≤ n = omega arith in
-    sym (c .before .loop .inv .1 ∙ run-end stop step 22 n s h)
+    sym (l .inv .1 ∙ run-end (isDone (a .square) (a .bound)) (withNext (a .square)) 22 n s h)
 
 pub further-spec : {M : Type 1} → statement M
 further-spec =

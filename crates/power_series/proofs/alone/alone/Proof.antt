@@ -3,17 +3,17 @@ use mathlib.Core.Path.{_≡_, sym, ap, _∙_, subst}
 use Prim.Native.Nat.{ℕ, _/_}
 use native.Mathlib.Omega.{arith}
 use lib.Dec.{T}
-use lib.Ieee.{Float, binary64, ofBits, fits, add}
+use lib.Ieee.{Float, binary64, fits}
 use lib.ListN.{length}
 use Rattle.complex.specs.declared.number.Complex.{Complex}
 use Rattle.complex.specs.Arithmetic.{timesReal}
 use Rattle.complex.specs.Functions.{modulusOf}
-use Rattle.power_series.specs.declared.ground.Ground.{Ground}
-use Rattle.power_series.specs.declared.sum.Sum.{Sum}
-use Rattle.power_series.specs.Orders.{half, halfSquare}
-use Rattle.power_series.specs.Sum.{sumOf}
-use Rattle.power_series.specs.Ground.{turnedOf, squareOf, groundOf}
-use Rattle.power_series.specs.Plain.{Plain}
+use Rattle.series_step.specs.declared.setting.Setting.{Setting}
+use Rattle.laws.specs.Operators.{_⊕_}
+use Rattle.machine.specs.Small.{nothing, half}
+use Rattle.series_step.specs.Setting.{halfSquare, turnedOf, squareOf}
+use Rattle.series_sum.specs.Sum.{sumOf}
+use Rattle.power_series.specs.shapes.Alone.{Plain}
 use Rattle.power_series.specs.Visit.{visitOf}
 use Rattle.power_series.proofs.AloneFacts.{sumAt, sum-is, alone-visited, alone-written, pair-cells}
 use borrow.Author.Needs.{needs}
@@ -54,15 +54,18 @@ returns c =
     let t = d .before .before .before in
     let s = t .before .before in
     let a = s .args in
-    let square : d .before .turn .result ≡ turnedOf (a .turned) (squareOf (a .modulus) (timesReal (a .z) half)) = d .before .turn .ensures ∙ ap (turnedOf (a .turned)) (d .before .before .square-of .ensures ∙ ap (squareOf (a .modulus)) (t .times-real .ensures)) in
-    let is : d .single-n-iteration .result ≡ sumAt (a .turned) (a .order) (a .z) (a .modulus) =
-    d .single-n-iteration .ensures ∙ ap (λ (w : Complex). sumOf (add binary64 (a .order) (ofBits binary64 0)) w (halfSquare (a .modulus))) square ∙ sum-is (a .turned) (a .order) (a .z) (a .modulus) in
-    let plain : Plain (modulusOf (timesReal (a .z) half)) (d .single-n-iteration .result .value) =
-    subst (λ (x : Float). Plain x (d .single-n-iteration .result .value)) (c .before .before .modulus .ensures ∙ ap modulusOf (t .times-real .ensures)) (c .before .is-plain .ensures (c .if1 .taken)) in
+    let turning = d .before .turn in
+    let sum = d .single-n-iteration in
+    let value = sum .result .value in
+    let square : turning .result ≡ turnedOf (a .turned) (squareOf (a .modulus) (timesReal (a .z) half)) =
+    turning .ensures ∙ ap (turnedOf (a .turned)) (d .before .before .square-of .ensures ∙ ap (squareOf (a .modulus)) (t .times-real .ensures)) in
+    let is : sum .result ≡ sumAt (a .turned) (a .order) (a .z) (a .modulus) =
+    sum .ensures ∙ ap (λ (w : Complex). sumOf (a .order ⊕ nothing) w (halfSquare (a .modulus))) square ∙ sum-is (a .turned) (a .order) (a .z) (a .modulus) in
+    let plain : Plain (modulusOf (timesReal (a .z) half)) value =
+    subst (λ (x : Float). Plain x value) (c .before .before .modulus .ensures ∙ ap modulusOf (t .times-real .ensures)) (c .before .is-plain .ensures (c .if1 .taken)) in
     let fine : T (fits binary64 (a .order)) = subst T (sym (s .good .1 .0 .1)) tt in (
-      alone-visited (a .turned) (a .order) (a .z) (a .modulus) fine (s .pre .0) (d .single-n-iteration .result) is plain,
-      pair-cells (a .out .now) (d .single-n-iteration .result .value .re) (d .single-n-iteration .result .value .im) (s .pre .1)
-          ∙ alone-written (a .turned) (a .order) (a .z) (a .modulus) fine (s .pre .0) (d .single-n-iteration .result) is plain,
+      alone-visited (a .turned) (a .order) (a .z) (a .modulus) fine (s .pre .0) (sum .result) is plain,
+      pair-cells (a .out .now) (value .re) (value .im) (s .pre .1) ∙ alone-written (a .turned) (a .order) (a .z) (a .modulus) fine (s .pre .0) (sum .result) is plain,
     )
 
 prepare-requires : tie.Need-prepare-requires
@@ -77,11 +80,12 @@ same-length-2 c = search needs
 returns-2 : tie.Need-returns-2
 returns-2 c =
     let d = c .before .before in
-    let p = d .before .before .prepare in
-    let s = d .before .before .before .before .before .before .before .before .before .before .before .before in
+    let b = d .before .before in
+    let p = b .prepare in
+    let s = b .before .before .before .before .before .before .before .before .before .before in
     let n : length (s .args .out .now) / 2 ≡ 1 = omega (arith, s .pre .1) in (
-      d .stepwise .ensures .0 ∙ ap (λ (k : ℕ). visitOf (p .result) k .visit) n ∙ ap (λ (g : Ground). visitOf g 1 .visit) (p .ensures),
-      d .stepwise .ensures .1 ∙ ap (λ (k : ℕ). visitOf (p .result) k .cells) n ∙ ap (λ (g : Ground). visitOf g 1 .cells) (p .ensures),
+      d .stepwise .ensures .0 ∙ ap (λ (k : ℕ). visitOf (p .result) k .visit) n ∙ ap (λ (g : Setting). visitOf g 1 .visit) (p .ensures),
+      d .stepwise .ensures .1 ∙ ap (λ (k : ℕ). visitOf (p .result) k .cells) n ∙ ap (λ (g : Setting). visitOf g 1 .cells) (p .ensures),
     )
 
 pub alone-spec : {M : Type 1} → statement M

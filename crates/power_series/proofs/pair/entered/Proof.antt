@@ -1,9 +1,9 @@
 -- `power_series::pair::entered` meets its contract. Assumes nothing.
 use mathlib.Core.Path.{_≡_, ap}
 use native.Mathlib.Omega.{arith}
-use Rattle.power_series.specs.declared.step.Descent.{Descent}
-use Rattle.power_series.specs.Step.{markedOf}
-use Rattle.power_series.specs.Pair.{enteredOf}
+use Rattle.series_step.specs.declared.descent.Descent.{Descent}
+use Rattle.series_step.specs.Mark.{markedOf}
+use Rattle.power_series.specs.shapes.Pair.{enteredOf}
 use borrow.Author.Needs.{needs}
 use Rattle.power_series.proofs.pair.entered.Statement.{statement}
 use Rattle.power_series.proofs.pair.entered.Tie as tie
@@ -18,7 +18,8 @@ kept-requires : tie.Need-kept-requires
 unfolding markedOf
 kept-requires c κs =
     let s = c .before .before .before in
-    let e : c .before .marked .result .seeded ≡ s .args .s .seeded = ap (λ (q : Descent). q .seeded) (c .before .marked .ensures) in
+    let m = c .before .marked in
+    let e : m .result .seeded ≡ s .args .s .seeded = ap (λ (q : Descent). q .seeded) (m .ensures) in
     omega (arith, s .pre)
 
 returns : tie.Need-returns

@@ -1,10 +1,10 @@
 -- `power_series::pair::evened` meets its contract: an even number of orders, and one step more. Assumes nothing.
-use mathlib.Core.Path.{_≡_, refl, sym, _∙_, subst}
-use Prim.Native.Nat.{_-_, _*_, _/_, _%_, _≤_, _<_}
+use mathlib.Core.Path.{_≡_, sym, _∙_, subst}
+use Prim.Native.Nat.{_-_, _*_, _/_, _<_}
 use native.Mathlib.Omega.{arith}
 use lib.ListN.{length, length-set}
-use Rattle.power_series.specs.declared.step.Descent.{Descent}
-use Rattle.power_series.specs.Pair.{Settled}
+use Rattle.series_step.specs.declared.descent.Descent.{Descent}
+use Rattle.power_series.specs.shapes.Pair.{Settled}
 use Rattle.power_series.proofs.WalkFacts.{walking-from, walking-step, walking-whole}
 use Rattle.power_series.proofs.PairFacts.{settled-step, settled-next}
 use borrow.Author.Needs.{needs}

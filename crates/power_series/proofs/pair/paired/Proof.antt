@@ -1,10 +1,10 @@
 -- `power_series::pair::paired` meets its contract: the two entries, and what is left of the visit. Assumes nothing.
 use mathlib.Core.Path.{_≡_, sym, ap, _∙_, subst}
-use Prim.Native.Nat.{ℕ, _-_, _*_, _/_, _%_, _≤_, _<_}
+use Prim.Native.Nat.{ℕ, _-_, _*_, _/_}
 use native.Mathlib.Omega.{arith}
 use lib.ListN.{length, length-set, drop}
 use Rattle.power_series.specs.Visit.{Walk, walkOf}
-use Rattle.power_series.specs.Pair.{Settled, walkFrom}
+use Rattle.power_series.specs.shapes.Pair.{Settled, walkFrom}
 use Rattle.power_series.proofs.WalkFacts.{Walking, walking-whole}
 use Rattle.power_series.proofs.PairFacts.{paired-settled, pairedCells, paired-walk}
 use borrow.Author.Needs.{needs}
@@ -60,30 +60,43 @@ slice-write-out-4 : tie.Need-slice-write-out-4
 slice-write-out-4 c = let s = c .before .before .before .before .before in simp length-set (omega (arith, s .pre))
 
 -- the two entries are written
-abbrev walked : (c : tie.Start) → Walking (c .args .g) (walkOf (c .args .g) (length (c .args .out .now) / 2)) (c .args .out .now) (length (c .args .out .now) / 2) (length (c .args .out .now) / 2 - 1 - 1) (c .args .p .lower) (pairedCells (c .args .g) (length (c .args .out .now) / 2) (c .args .p) (c .pre .3) (c .args .out .now))
-walked c = paired-walk (c .args .g) (length (c .args .out .now) / 2) (c .args .p) (c .pre .3) (c .args .out .now) (omega (arith, c .pre)) (c .pre .2)
+abbrev walked :
+    (c : tie.Start) → let a = c .args in let n = length (a .out .now) / 2 in
+    Walking (a .g) (walkOf (a .g) n) (a .out .now) n (n - 1 - 1) (a .p .lower) (pairedCells (a .g) n (a .p) (c .pre .3) (a .out .now))
+walked c = let a = c .args in paired-walk (a .g) (length (a .out .now) / 2) (a .p) (c .pre .3) (a .out .now) (omega (arith, c .pre)) (c .pre .2)
 
 evened-requires : tie.Need-evened-requires
 evened-requires c κs =
     let s = c .before .before .before .before .before .before in
-    let same = walked s .down .same in
-    (omega (arith, s .pre, same), omega (arith, s .pre, same), subst (λ (q : ℕ). Settled (q / 2) (length (s .args .out .now) / 2 - 1 - 1) (s .args .p .lower)) (sym same) (paired-settled _ _ _ (s .pre .3) (s .args .out .now)))
+    let same = walked s .down .same in (
+      omega (arith, s .pre, same),
+      omega (arith, s .pre, same),
+      subst (λ (q : ℕ). Settled (q / 2) (length (s .args .out .now) / 2 - 1 - 1) (s .args .p .lower)) (sym same) (paired-settled _ _ _ (s .pre .3) (s .args .out .now)),
+    )
 
 two-by-two-requires : tie.Need-two-by-two-requires
 two-by-two-requires c κs =
-    let s = c .before .before .before .before .before .before .before .before .before .before .before in
-    let e = c .before .before .before .before .evened in
-    let same : length (e .last .1 .1 .1 .0) ≡ length (s .args .out .now) = e .kept .1 .1 .1 .0 ∙ walked s .down .same in
-    (omega (arith, s .pre, same), omega (arith, s .pre, same), e .ensures .0, subst (λ (q : ℕ). Settled (q / 2) (e .result .left) (e .result .state)) (sym (e .kept .1 .1 .1 .0)) (e .ensures .1))
+    let d = c .before .before .before .before in
+    let s = d .before .before .before .before .before .before .before in
+    let e = d .evened in
+    let kept = e .kept .1 .1 .1 .0 in
+    let same : length (e .last .1 .1 .1 .0) ≡ length (s .args .out .now) = kept ∙ walked s .down .same in
+    (omega (arith, s .pre, same), omega (arith, s .pre, same), e .ensures .0, subst (λ (q : ℕ). Settled (q / 2) (e .result .left) (e .result .state)) (sym kept) (e .ensures .1))
 
 same-length : tie.Need-same-length
-same-length c = c .before .before .two-by-two .kept .1 .1 .1 .0 ∙ c .before .before .before .before .before .before .before .evened .kept .1 .1 .1 .0 ∙ walked (c .before .before .before .before .before .before .before .before .before .before .before .before .before .before) .down .same
+same-length c =
+    let t = c .before .before in
+    let d = t .before .before .before .before .before in
+    let s = d .before .before .before .before .before .before .before in
+    t .two-by-two .kept .1 .1 .1 .0 ∙ d .evened .kept .1 .1 .1 .0 ∙ walked s .down .same
 
 returns : tie.Need-returns
 returns c =
-    let s = c .before .before .before .before .before .before .before .before .before .before .before .before .before .before in
-    let e = c .before .before .before .before .before .before .before .evened in
-    let t = c .before .before .two-by-two in
+    let b = c .before .before in
+    let d = b .before .before .before .before .before in
+    let s = d .before .before .before .before .before .before .before in
+    let e = d .evened in
+    let t = b .two-by-two in
     let w = walked s in
     let g = s .args .g in
     let n = length (s .args .out .now) / 2 in
@@ -96,7 +109,7 @@ returns c =
     ∙ ap (λ (q : ℕ). walkFrom g (q / 2) (n - 1 - 1) lower (drop ((n - 1 - 1) * 2) cells)) (sym (w .down .same))
     ∙ e .ensures .2
     ∙ ap (λ (q : ℕ). walkFrom g (q / 2) (r .left) (r .state) (drop (r .left * 2) last)) (sym (e .kept .1 .1 .1 .0)) in
-    (t .ensures .0 ∙ ap (λ (q : Walk). q .reached) (sym whole), t .ensures .1 ∙ ap (λ (q : Walk). q .cells) (sym whole))
+    (t .ensures .0 ∙ ap (λ (q : Walk). q .standing) (sym whole), t .ensures .1 ∙ ap (λ (q : Walk). q .cells) (sym whole))
 
 pub paired-spec : {M : Type 1} → statement M
 paired-spec =

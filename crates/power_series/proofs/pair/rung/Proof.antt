@@ -1,5 +1,5 @@
 -- `power_series::pair::rung` meets its contract. Assumes nothing.
-use Rattle.power_series.specs.Step.{recurredIf, recurredOf}
+use Rattle.series_step.specs.Recurred.{recurredIf, recurredOf}
 use borrow.Author.Needs.{needs}
 use Rattle.power_series.proofs.pair.rung.Statement.{statement}
 use Rattle.power_series.proofs.pair.rung.Tie as tie

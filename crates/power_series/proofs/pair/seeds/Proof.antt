@@ -2,10 +2,12 @@
 use mathlib.Core.Path.{_≡_, ap}
 use Prim.Native.Nat.{_+_}
 use native.Mathlib.Omega.{arith}
-use Rattle.power_series.specs.declared.step.Descent.{Descent}
-use Rattle.power_series.specs.Orders.{orderAt}
-use Rattle.power_series.specs.Step.{startDescent, markedOf, keptOf}
-use Rattle.power_series.specs.Pair.{enteredOf, pairOf}
+use Rattle.series_step.specs.declared.descent.Descent.{Descent}
+use Rattle.series_step.specs.Setting.{orderAt}
+use Rattle.series_step.specs.Descent.{startDescent}
+use Rattle.series_step.specs.Mark.{markedOf}
+use Rattle.series_step.specs.Seed.{keptOf}
+use Rattle.power_series.specs.shapes.Pair.{enteredOf, pairOf}
 use borrow.Author.Needs.{needs}
 use Rattle.power_series.proofs.pair.seeds.Statement.{statement}
 use Rattle.power_series.proofs.pair.seeds.Tie as tie
@@ -43,15 +45,18 @@ entered-requires c κs =
 entered-requires-2 : tie.Need-entered-requires-2
 unfolding startDescent markedOf keptOf enteredOf
 entered-requires-2 c κs =
-    let e : c .before .start .result .seeded ≡ 0 = ap (λ (q : Descent). q .seeded) (c .before .start .ensures) in
-    let f : c .entered .result .seeded ≡ c .before .start .result .seeded + 1 = ap (λ (q : Descent). q .seeded) (c .entered .ensures) in
+    let s = c .before .start in
+    let e : s .result .seeded ≡ 0 = ap (λ (q : Descent). q .seeded) (s .ensures) in
+    let f : c .entered .result .seeded ≡ s .result .seeded + 1 = ap (λ (q : Descent). q .seeded) (c .entered .ensures) in
     omega arith
 
 returns : tie.Need-returns
 unfolding orderAt pairOf
 returns c =
     let d = c .before .before .before .before .before in
-    simp (c .entered2 .ensures, c .before .entered .ensures, c .before .before .start .ensures, d .two-sums .ensures .0, d .two-sums .ensures .1, d .before .before .before .before .before .before .exp2 .ensures, d .before .before .before .before .before .before .before .exp .ensures)
+    let x = d .before .before .before .before .before .before in
+    let t = d .two-sums .ensures in
+    simp (c .entered2 .ensures, c .before .entered .ensures, c .before .before .start .ensures, t .0, t .1, x .exp2 .ensures, x .before .exp .ensures)
 
 pub seeds-spec : {M : Type 1} → statement M
 seeds-spec =

@@ -1,13 +1,12 @@
 -- `power_series::pair::two_by_two` meets its contract: before each pair of orders the run that is left, from the state and the cells as they are, ends as it did at first. Assumes nothing.
-use mathlib.Core.Path.{_≡_, refl, sym, _∙_, subst}
-use Prim.Native.Nat.{_+_, _-_, _*_, _/_, _%_, _≤_, _<_}
+use mathlib.Core.Path.{_≡_, sym, _∙_, subst}
+use Prim.Native.Nat.{_-_, _*_, _/_, _%_, _≤_, _<_}
 use native.Mathlib.Omega.{arith}
 use lib.ListN.{length, length-set, drop}
-use Rattle.power_series.specs.declared.step.Descent.{Descent}
-use Rattle.power_series.specs.Pair.{Settled, walkFrom}
-use Rattle.power_series.proofs.WalkFacts.{Walking, walking-from, walking-step, walking-end, walking-reached, walking-cells}
+use Rattle.series_step.specs.declared.descent.Descent.{Descent}
+use Rattle.power_series.specs.shapes.Pair.{Settled, walkFrom}
+use Rattle.power_series.proofs.WalkFacts.{Walking, walking-from, walking-step, walking-end, walking-standing, walking-cells}
 use Rattle.power_series.proofs.PairFacts.{settled-step, settled-next}
-use borrow.Author.Needs.{needs}
 use Rattle.power_series.proofs.pair.two_by_two.Statement.{statement}
 use Rattle.power_series.proofs.pair.two_by_two.Tie as tie
 
@@ -27,7 +26,9 @@ sub-left : tie.Need-sub-left Inv-loop μ-loop
 sub-left c = omega arith
 
 -- the orders that are left are few
-abbrev few : (c : tie.In-loop Inv-loop μ-loop) → (c .before .loop .left ≤ 512) × (c .before .loop .state .counts .rungs ≤ 512) × (c .before .loop .left * 2 ≤ length (c .before .loop .out))
+abbrev few :
+    (c : tie.In-loop Inv-loop μ-loop) → let l = c .before .loop in
+    (l .left ≤ 512) × (l .state .counts .rungs ≤ 512) × (l .left * 2 ≤ length (l .out))
 few c =
     let l = c .before .loop in
     let s = c .before .before .before in
@@ -70,10 +71,14 @@ cast-rung-2 : tie.Need-cast-rung-2 Inv-loop μ-loop
 cast-rung-2 c = omega (arith, few (c .before .before))
 
 -- after one order
-abbrev settled : (c : tie.After-rung Inv-loop μ-loop) → Settled (length (c .before .before .before .before .args .out .now) / 2) (c .before .before .loop .left - 1) (c .rung .result)
+abbrev settled :
+    (c : tie.After-rung Inv-loop μ-loop) → let d = c .before .before in
+    Settled (length (d .before .before .args .out .now) / 2) (d .loop .left - 1) (c .rung .result)
 settled c =
-    let l = c .before .before .loop in
-    subst (λ (q : Descent). Settled (length (c .before .before .before .before .args .out .now) / 2) (l .left - 1) q) (sym (c .rung .ensures)) (settled-next _ (l .left - 1) (l .state) (l .inv .1) (omega arith))
+    let d = c .before .before in
+    let l = d .loop in
+    subst (λ (q : Descent). Settled (length (d .before .before .args .out .now) / 2) (l .left - 1) q) (sym (c .rung .ensures))
+    (settled-next _ (l .left - 1) (l .state) (l .inv .1) (omega arith))
 
 rung-requires-2 : tie.Need-rung-requires-2 Inv-loop μ-loop
 rung-requires-2 c κs =
@@ -108,14 +113,16 @@ loop-less c = omega arith
 
 loop-again : tie.Need-loop-again Inv-loop μ-loop
 loop-again c =
-    let l = c .before .before .before .before .before .loop in
-    let n = length (c .before .before .before .before .before .before .before .args .out .now) / 2 in
-    let a = c .before .before .before .rung in
+    let d = c .before .before .before in
+    let l = d .before .before .loop in
+    let n = length (d .before .before .before .before .args .out .now) / 2 in
+    let a = d .rung in
     let b = c .before .rung2 in
-    let t = settled (c .before .before .before) in
+    let t = settled d in
     let more : 0 < l .left = omega arith in
     let most : 0 < l .left - 1 = omega arith in
-    let first = walking-step _ _ _ (l .inv .2) (a .result) (a .ensures ∙ sym (settled-step _ (l .left - 1) (l .state) (l .inv .1 .seeded))) more (l .inv .1 .goes) in
+    let first =
+    walking-step _ _ _ (l .inv .2) (a .result) (a .ensures ∙ sym (settled-step _ (l .left - 1) (l .state) (l .inv .1 .seeded))) more (l .inv .1 .goes) in
     let second = walking-step _ _ _ first (b .result) (b .ensures ∙ sym (settled-step _ (l .left - 1 - 1) (a .result) (t .seeded))) most (t .goes) in
     (omega arith, subst (λ (q : Descent). Settled n (l .left - 1 - 1) q) (sym (b .ensures)) (settled-next _ (l .left - 1 - 1) (a .result) t most), second)
 
@@ -127,7 +134,7 @@ returns c =
     let l = c .before .loop in
     let w = l .inv .2 in
     let e = walking-end _ _ _ w (omega (arith, l .inv .0)) in
-    (walking-reached _ _ _ w e, walking-cells _ _ _ w e)
+    (walking-standing _ _ _ w e, walking-cells _ _ _ w e)
 
 pub two-by-two-spec : {M : Type 1} → statement M
 two-by-two-spec =

@@ -5,7 +5,7 @@ use Prim.Native.Nat.{ℕ, _/_}
 use native.Mathlib.Omega.{arith}
 use lib.ListN.{length}
 use Rattle.machine.specs.Constants.{underflowLimit}
-use Rattle.power_series.specs.Ground.{groundOf}
+use Rattle.series_step.specs.Setting.{settingOf}
 use Rattle.power_series.specs.Visit.{visitOf}
 use Rattle.power_series.specs.Series.{powerSeriesIf, powerSeriesOf}
 use borrow.Author.Needs.{needs}
@@ -44,8 +44,8 @@ returns-2 c =
     let h = i .is-alone .ensures (d .before .before .if2 .taken) in
     let n : 1 ≡ length (s .args .out .now) / 2 = omega (arith, h .2) in
     rw (i .before .if1 .left) (
-      d .alone .ensures .0 ∙ ap (λ (k : ℕ). visitOf (groundOf false (s .args .turned) (s .args .order) (s .args .z) (s .args .modulus)) k .visit) n ∙ ap (λ (b : Bool). visitOf (groundOf b (s .args .turned) (s .args .order) (s .args .z) (s .args .modulus)) (length (s .args .out .now) / 2) .visit) (sym (h .0)),
-      d .alone .ensures .1 ∙ ap (λ (k : ℕ). visitOf (groundOf false (s .args .turned) (s .args .order) (s .args .z) (s .args .modulus)) k .cells) n ∙ ap (λ (b : Bool). visitOf (groundOf b (s .args .turned) (s .args .order) (s .args .z) (s .args .modulus)) (length (s .args .out .now) / 2) .cells) (sym (h .0)),
+      d .alone .ensures .0 ∙ ap (λ (k : ℕ). visitOf (settingOf false (s .args .turned) (s .args .order) (s .args .z) (s .args .modulus)) k .visit) n ∙ ap (λ (b : Bool). visitOf (settingOf b (s .args .turned) (s .args .order) (s .args .z) (s .args .modulus)) (length (s .args .out .now) / 2) .visit) (sym (h .0)),
+      d .alone .ensures .1 ∙ ap (λ (k : ℕ). visitOf (settingOf false (s .args .turned) (s .args .order) (s .args .z) (s .args .modulus)) k .cells) n ∙ ap (λ (b : Bool). visitOf (settingOf b (s .args .turned) (s .args .order) (s .args .z) (s .args .modulus)) (length (s .args .out .now) / 2) .cells) (sym (h .0)),
     )
 
 prepare-requires : tie.Need-prepare-requires

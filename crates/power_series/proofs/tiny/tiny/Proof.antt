@@ -3,8 +3,9 @@ use mathlib.Core.Path.{ap, _∙_}
 use mathlib.Core.List.{List}
 use Prim.Native.Nat.{_-_, _*_, _/_}
 use native.Mathlib.Omega.{arith}
-use lib.Ieee.{Float, binary64, ofBits}
+use lib.Ieee.{Float}
 use lib.ListN.{length, set}
+use Rattle.machine.specs.Small.{nothing}
 use Rattle.power_series.specs.Tiny.{tinyOf}
 use Rattle.cells.proofs.FillFacts.{replicate-first}
 use borrow.Author.Needs.{needs}
@@ -33,10 +34,11 @@ returns : tie.Need-returns
 unfolding tinyOf
 returns c =
     let d = c .before .before .before .before in
-    let n = length (d .before .before .before .args .out .now) in (
+    let n = length (d .before .before .before .args .out .now) in
+    let l = c .before .lowest in (
       simp (c .zeros .ensures),
-      rw (← c .before .lowest .ensures)
-          (ap (λ (l : List Float). set l 0 (c .before .lowest .result)) (d .fill .ensures) ∙ replicate-first n (n / 2 * 2 - 1) (ofBits binary64 0) (c .before .lowest .result) (omega arith) (omega arith)),
+      rw (← l .ensures)
+          (ap (λ (cells : List Float). set cells 0 (l .result)) (d .fill .ensures) ∙ replicate-first n (n / 2 * 2 - 1) nothing (l .result) (omega arith) (omega arith)),
     )
 
 pub tiny-spec : {M : Type 1} → statement M

@@ -1,6 +1,7 @@
 -- `power_series::visit::concluded` meets its contract. Assumes nothing.
 use mathlib.Core.Path.{refl}
-use Rattle.power_series.specs.Visit.{visitedOf, concludedOf}
+use Rattle.power_series.specs.Visit.{visitedOf}
+use Rattle.power_series.specs.shapes.Visit.{concludedOf}
 use Rattle.power_series.proofs.WalkFacts.{below-filled}
 use borrow.Author.Needs.{needs}
 use Rattle.power_series.proofs.visit.concluded.Statement.{statement}

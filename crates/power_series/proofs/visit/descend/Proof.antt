@@ -1,10 +1,10 @@
 -- `power_series::visit::descend` meets its contract: before each order the run that is left, from the state and the cells as they are, ends as the whole run does. Assumes nothing.
 use mathlib.Core.Path.{_≡_}
 use native.Mathlib.Omega.{arith}
-use Prim.Native.Nat.{_+_, _-_, _*_, _/_, _≤_, _<_}
+use Prim.Native.Nat.{_-_, _/_}
 use lib.ListN.{length, length-set}
 use Rattle.power_series.specs.Visit.{walkOf}
-use Rattle.power_series.proofs.WalkFacts.{Walking, walking-start, walking-step, walking-stop, walking-end, walking-reached, walking-cells}
+use Rattle.power_series.proofs.WalkFacts.{Walking, walking-start, walking-step, walking-stop, walking-end, walking-standing, walking-cells}
 use borrow.Author.Needs.{needs}
 use Rattle.power_series.proofs.visit.descend.Statement.{statement}
 use Rattle.power_series.proofs.visit.descend.Tie as tie
@@ -28,7 +28,7 @@ returns : tie.Need-returns Inv-loop μ-loop
 returns c =
     let w = c .before .before .loop .inv in
     let e = walking-stop _ _ _ w (c .if1 .taken) in
-    (walking-reached _ _ _ w e, walking-cells _ _ _ w e)
+    (walking-standing _ _ _ w e, walking-cells _ _ _ w e)
 
 sub-left : tie.Need-sub-left Inv-loop μ-loop
 sub-left c = omega arith
@@ -81,7 +81,7 @@ returns-2 : tie.Need-returns-2 Inv-loop μ-loop
 returns-2 c =
     let w = c .before .loop .inv in
     let e = walking-end _ _ _ w (omega arith) in
-    (walking-reached _ _ _ w e, walking-cells _ _ _ w e)
+    (walking-standing _ _ _ w e, walking-cells _ _ _ w e)
 
 pub descend-spec : {M : Type 1} → statement M
 descend-spec =

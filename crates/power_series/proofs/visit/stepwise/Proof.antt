@@ -3,7 +3,7 @@ use mathlib.Core.Path.{_≡_, sym, ap, _∙_, subst}
 use Prim.Native.Nat.{_*_, _/_, _≤_}
 use native.Mathlib.Omega.{arith}
 use lib.ListN.{length}
-use Rattle.power_series.specs.declared.visit.Reached.{Reached}
+use Rattle.power_series.specs.declared.visit.Standing.{Standing}
 use Rattle.power_series.specs.Visit.{Visited}
 use Rattle.power_series.proofs.WalkFacts.{walk-left, concluded-visit}
 use borrow.Author.Needs.{needs}
@@ -18,7 +18,7 @@ concluded-requires c κs =
     let s = c .before .before .before .before .before .before in
     let d = c .before .before .before .descend in
     let k : length (d .last .1 .0) ≡ length (s .args .out .now) = d .kept .1 .0 in
-    let h : d .result .left ≤ length (s .args .out .now) / 2 = subst (λ (r : Reached). r .left ≤ length (s .args .out .now) / 2) (sym (d .ensures .0)) (walk-left _ _) in
+    let h : d .result .left ≤ length (s .args .out .now) / 2 = subst (λ (r : Standing). r .left ≤ length (s .args .out .now) / 2) (sym (d .ensures .0)) (walk-left _ _) in
     let few : length (d .last .1 .0) ≤ 1024 = omega (arith, s .pre, k) in
     let low : d .result .left * 2 ≤ length (d .last .1 .0) = omega (arith, k, h) in
     (few, low)

@@ -1,0 +1,4 @@
+-- How it is computed, not what: the shapes that only the code's speed asks for.
+pub mod Visit
+pub mod Pair
+pub mod Alone

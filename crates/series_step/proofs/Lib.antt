@@ -1,0 +1,2 @@
+-- The theorems, by topic.
+pub mod StepFacts

@@ -1,0 +1,3 @@
+-- The definitions that other crates cite, by topic.
+pub mod Sum
+pub mod shapes

@@ -9,7 +9,7 @@ use Rattle.call.specs.Limits.{lengthInside, areFinite}
 use Rattle.call.specs.Checks.{verdictOf, noneApplies, lengthChecks, finiteChecks, limitChecks}
 use Rattle.call.proofs.FirstFacts.{none-left, none-right, admitted-none}
 use Rattle.call.proofs.LimitFacts.{Lent, lent, Inside, length-passed, finite-passed, limits-passed}
-use Rattle.power_series.specs.Orders.{beyondSeries}
+use Rattle.power_series.specs.Series.{beyondSeries}
 use Rattle.bessel.specs.declared.arguments.Arguments.{Arguments}
 use Rattle.bessel.specs.Checks.{argumentChecks, kOwnChecks, kChecks, seriesOwnChecks, seriesChecks}
 

@@ -18,7 +18,8 @@ use Rattle.call.proofs.FirstFacts.{verdict-append, stays}
 use Rattle.roots.specs.Hypot.{hypotOf}
 use Rattle.complex.specs.Functions.{modulusOf}
 use Rattle.complex.specs.Lost.{magnitudeOf}
-use Rattle.power_series.specs.Orders.{orderAt, orderPlusOne, beyondSeries}
+use Rattle.series_step.specs.Setting.{orderAt, orderPlusOne}
+use Rattle.power_series.specs.Series.{beyondSeries}
 use Rattle.power_series.specs.Tiny.{lowestOf, zerosOf, tinyOf}
 use Rattle.power_series.specs.Series.{powerSeriesIf, powerSeriesOf}
 use Rattle.bessel.specs.declared.arguments.Arguments.{Arguments}

@@ -24,7 +24,7 @@ use Rattle.bessel.specs.Checks.{argumentChecks, seriesOwnChecks, seriesC
 use Rattle.bessel.specs.Outcome.{Outcome, Steps, Delivered, judgedOf, concludedOf, callOutcome}
 use Rattle.bessel.specs.Series.{visitedBy, visitAnswer, visitSteps, seriesOutcome, visitChecks, allSeriesChecks}
 use Rattle.bessel.proofs.CheckFacts.{series-passed}
-use Rattle.bessel.proofs.SeriesFacts.{series-fits}
+use Rattle.power_series.proofs.SeriesFacts.{series-fits}
 use Rattle.bessel.proofs.CallFacts.{no-other, judged-number, RefusedWhole, refused-facts, Ended, refused, answered, ends, numbered}
 
 answer-number : (w : Visited) → visitAnswer w .number ≡ 0

@@ -7,10 +7,10 @@ use lib.Dec.{T}
 use lib.Ieee.{Float, binary64, fits}
 use Rattle.call.specs.Checks.{noneApplies}
 use Rattle.call.proofs.LimitFacts.{lent}
-use Rattle.power_series.specs.Error.{sumIsOne}
-use Rattle.power_series.specs.Orders.{orderPlusOne, halfSquare}
-use Rattle.power_series.specs.Ground.{groundOf}
-use Rattle.power_series.proofs.SumEnds.{EndsByTest}
+use Rattle.series_sum.specs.Sum.{sumIsOne}
+use Rattle.series_step.specs.Setting.{orderPlusOne, halfSquare}
+use Rattle.series_step.specs.Setting.{settingOf}
+use Rattle.series_sum.proofs.SumEnds.{EndsByTest}
 use Rattle.power_series.proofs.VisitSums.{Wanted, walkAfter, visit-sums-end}
 use Rattle.bessel.specs.Arguments.{argumentsOf}
 use Rattle.bessel.specs.Checks.{seriesChecks}
@@ -22,7 +22,7 @@ use Rattle.bessel.proofs.SeriesOutcome.{answered-whole}
 -- wherever the visit wants a seed and its sum is not 1 at once
 pub admitted-sums-end :
     (scaled turned : Bool) (v re im : Float) (length : ℕ) → T (fits binary64 re) → T (fits binary64 im) → noneApplies (seriesChecks (argumentsOf v re im) length) ≡ true →
-    (i : ℕ) → let a = argumentsOf v re im in let g = groundOf scaled turned (a .order) (a .z) (a .modulus) in let u = orderPlusOne (a .order) (walkAfter g (length / 2) i .reached .left - 1) in
+    (i : ℕ) → let a = argumentsOf v re im in let g = settingOf scaled turned (a .order) (a .z) (a .modulus) in let u = orderPlusOne (a .order) (walkAfter g (length / 2) i .standing .left - 1) in
     Wanted (walkAfter g (length / 2) i) → sumIsOne (halfSquare (a .modulus)) u ≡ false → EndsByTest (g .«half_z_sq») (halfSquare (a .modulus)) u
 admitted-sums-end scaled turned v re im length Fr Fi n i h e =
     let a = argumentsOf v re im in
@@ -33,6 +33,6 @@ admitted-sums-end scaled turned v re im length Fr Fi n i h e =
 -- the sums of an answered call
 pub answered-sums-end :
     (scaled turned : Bool) (v re im : Float) (length : ℕ) → T (fits binary64 re) → T (fits binary64 im) → seriesOutcome scaled turned v re im length .answer .number ≡ 0 →
-    (i : ℕ) → let a = argumentsOf v re im in let g = groundOf scaled turned (a .order) (a .z) (a .modulus) in let u = orderPlusOne (a .order) (walkAfter g (length / 2) i .reached .left - 1) in
+    (i : ℕ) → let a = argumentsOf v re im in let g = settingOf scaled turned (a .order) (a .z) (a .modulus) in let u = orderPlusOne (a .order) (walkAfter g (length / 2) i .standing .left - 1) in
     Wanted (walkAfter g (length / 2) i) → sumIsOne (halfSquare (a .modulus)) u ≡ false → EndsByTest (g .«half_z_sq») (halfSquare (a .modulus)) u
 answered-sums-end scaled turned v re im length Fr Fi n i h e = admitted-sums-end scaled turned v re im length Fr Fi (answered-whole scaled turned v re im length n .passed) i h e

@@ -4,7 +4,7 @@ use Prim.Native.Nat.{ℕ, _/_}
 use Rattle.refusal.specs.declared.refusal.Refusal.the-variants.{Zero, Series}
 use Rattle.call.specs.Limits.{isZero}
 use Rattle.call.specs.Checks.{Check, check, lengthChecks, finiteChecks, limitChecks}
-use Rattle.power_series.specs.Orders.{beyondSeries}
+use Rattle.power_series.specs.Series.{beyondSeries}
 use Rattle.bessel.specs.declared.arguments.Arguments.{Arguments}
 
 -- refusals 1, 2 and 3

@@ -2,7 +2,7 @@
 // From docs/SCOPE.md, Domain and refusals. Promised: the verdict of the lists of specs/Checks.antt, which are the order's one home.
 ghost use mathlib.Core.Path.{_≡_};
 ghost use Prim.Native.Nat.{_<_};
-ghost use Rattle.power_series.specs.Orders.{beyondSeries};
+ghost use Rattle.power_series.specs.Series.{beyondSeries};
 ghost use Rattle.call.specs.Checks.{verdictOf};
 ghost use Rattle.bessel.specs.Checks.{argumentChecks, kChecks, seriesChecks};
 use crate::arguments::Arguments;

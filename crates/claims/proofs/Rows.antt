@@ -14,38 +14,34 @@ use Rattle.complex.specs.Lost.{lostOf}
 use Rattle.complex.proofs.LostFacts.{zero-not-lost, one-not-lost, small-lost, nan-re-not-lost, nan-im-not-lost}
 use Rattle.gamma_ln.specs.LogGamma.{logGammaOf}
 use Rattle.gamma_ln.specs.declared.log_gamma.LogGamma.the-variants.{Value, Refused}
-use Rattle.gamma_ln.proofs.Outcome.{of-one, of-two, of-zero}
+use Rattle.gamma_ln.proofs.LogGammaFacts.{of-one, of-two, of-zero}
 use Rattle.right_half_plane.specs.Ground.{nearestOrder}
-use Rattle.bessel.specs.Arguments.{argumentsOf, lengthInside, areFinite}
-use Rattle.bessel.specs.Answer.{answeredOf}
+use Rattle.machine.specs.Small.{nothing, one}
+use Rattle.call.specs.Answer.{answeredOf}
+use Rattle.call.specs.Limits.{lengthInside, areFinite}
+use Rattle.bessel.specs.Arguments.{argumentsOf}
 use Rattle.bessel.specs.Outcome.{refusedOutcome}
 use Rattle.bessel.specs.I.{iOutcome}
 use Rattle.bessel.specs.K.{kOutcome}
 use Rattle.bessel.proofs.Rows.{at-zero, near-zero, beyond, k-empty, k-too-long, k-not-a-number, k-below-zero}
 
-abbrev pub nought : Float
-nought = ofBits binary64 0
-
-abbrev pub one : Float
-one = ofBits binary64 0x3FF0000000000000
-
 pub record Rows : Type 0 where
   -- I at z = 0, v = 1, n = 2: zeros, and none is counted
-  pub i-at-zero : (scaled : Bool) → iOutcome scaled one nought nought 4 ≡ record { answer = answeredOf (pos 0) 0 0 0; cells = nought ∷ nought ∷ nought ∷ nought ∷ [] }
+  pub i-at-zero : (scaled : Bool) → iOutcome scaled one nothing nothing 4 ≡ record { answer = answeredOf (pos 0) 0 0 0; cells = nothing ∷ nothing ∷ nothing ∷ nothing ∷ [] }
   -- I at z = 2^-1040, v = 0, n = 3: 1, 0, 0, and two are counted
-  pub i-near-zero : (scaled : Bool) → iOutcome scaled nought (ofBits binary64 0x0000000400000000) nought 6 ≡ record { answer = answeredOf (pos 2) 0 0 0; cells = one ∷ nought ∷ nought ∷ nought ∷ nought ∷ nought ∷ [] }
+  pub i-near-zero : (scaled : Bool) → iOutcome scaled nothing (ofBits binary64 0x0000000400000000) nothing 6 ≡ record { answer = answeredOf (pos 2) 0 0 0; cells = one ∷ nothing ∷ nothing ∷ nothing ∷ nothing ∷ nothing ∷ [] }
   -- K at an order that is not a number and z = 0: refusal 2
-  pub k-order-not-a-number : (scaled : Bool) (length : ℕ) → lengthInside length ≡ true → kOutcome scaled nan nought nought length ≡ refusedOutcome NotFinite length
+  pub k-order-not-a-number : (scaled : Bool) (length : ℕ) → lengthInside length ≡ true → kOutcome scaled nan nothing nothing length ≡ refusedOutcome NotFinite length
   -- K at re = -2^-1074: refusal 3
-  pub k-left-of-zero : (scaled : Bool) (v im : Float) (length : ℕ) → lengthInside length ≡ true → areFinite (argumentsOf v (ofBits binary64 0x8000000000000001) im) ≡ true → kOutcome scaled v (ofBits binary64 0x8000000000000001) im length ≡ refusedOutcome Domain length
+  pub k-left-of-zero : (scaled : Bool) (v im : Float) (length : ℕ) → let a = argumentsOf v (ofBits binary64 0x8000000000000001) im in lengthInside length ≡ true → areFinite (a .order) (a .z .re) (a .z .im) ≡ true → kOutcome scaled v (ofBits binary64 0x8000000000000001) im length ≡ refusedOutcome Domain length
   -- K on an empty buffer, and on one of 1,026 cells: refusal 1
   pub k-on-nothing : (scaled : Bool) (v re im : Float) → kOutcome scaled v re im 0 ≡ refusedOutcome Length 0
   pub k-on-too-much : (scaled : Bool) (v re im : Float) → kOutcome scaled v re im 1026 ≡ refusedOutcome Length 1026
   -- I at z = 4, v = 0, n = 1: refusal 5
-  pub i-beyond-series : (scaled : Bool) → iOutcome scaled nought (ofBits binary64 0x4010000000000000) nought 2 ≡ refusedOutcome Series 2
+  pub i-beyond-series : (scaled : Bool) → iOutcome scaled nothing (ofBits binary64 0x4010000000000000) nothing 2 ≡ refusedOutcome Series 2
   -- (0, 0) and (1, 0) are not lost, (2^-980, 2^-980) is, and a pair with a not-a-number part never is
-  pub zeros-kept : lostOf (record { re = nought; im = nought }) ≡ false
-  pub one-kept : lostOf (record { re = one; im = nought }) ≡ false
+  pub zeros-kept : lostOf (record { re = nothing; im = nothing }) ≡ false
+  pub one-kept : lostOf (record { re = one; im = nothing }) ≡ false
   pub tiny-lost : lostOf (record { re = ofBits binary64 0x02B0000000000000; im = ofBits binary64 0x02B0000000000000 }) ≡ true
   pub nan-re-kept : (y : Float) → lostOf (record { re = nan; im = y }) ≡ false
   pub nan-im-kept : (x : Float) → lostOf (record { re = x; im = nan }) ≡ false
@@ -57,9 +53,9 @@ pub record Rows : Type 0 where
   pub root-of-four : sqrtOf (fin false 1 (pos 2)) ≡ fin false 1 (pos 1)
   pub root-of-smallest : sqrtOf (fin false 1 (negsuc 1073)) ≡ fin false 1 (negsuc 536)
   -- log-gamma of 1 and 2 is 0, of 0 is refusal 10
-  pub log-gamma-of-one : logGammaOf one ≡ Value nought
-  pub log-gamma-of-two : logGammaOf (ofBits binary64 0x4000000000000000) ≡ Value nought
-  pub log-gamma-of-zero : logGammaOf nought ≡ Refused NotPositive
+  pub log-gamma-of-one : logGammaOf one ≡ Value nothing
+  pub log-gamma-of-two : logGammaOf (ofBits binary64 0x4000000000000000) ≡ Value nothing
+  pub log-gamma-of-zero : logGammaOf nothing ≡ Refused NotPositive
 
 r-quarter : nearestOrder (ofBits binary64 0x3FD0000000000000) ≡ 0
 unfolding nearestOrder ofBits toUnsigned

@@ -50,6 +50,10 @@ numbers x =
     (ap calls.numberGiven (verdict-append verdicts.Admitted (argumentChecks x) _) ∙ number-by (verdictOf (argumentChecks x)) (gammaLnOf x .value))
     (given (allChecks x))
 
+pub listed : (x : Float) → calls.numbersOf (allChecks x) ≡ 2 ∷ 10 ∷ 8 ∷ []
+unfolding calls.numbersOf allChecks argumentChecks
+listed x = refl
+
 -- ---- above zero and finite, as the two tests say it
 positive-of-tests : (x : Float) → finite x ≡ true → le x nothing ≡ false → T (positive x)
 unfolding ofBits

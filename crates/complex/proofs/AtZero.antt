@@ -2,12 +2,12 @@
 use mathlib.Core.Path.{_≡_, refl, ap}
 use mathlib.Core.Bool.{Bool, true, false}
 use lib.IntN.{pos}
-use lib.Ieee.{Float, fin, binary64, unlike, ofBits, toBits, add, sub, mul, neg, lt, le}
-use Rattle.exponential_tables.specs.Tables.{coarseHigh, coarseLow, fineHigh, fineLow, coarsePower, finePower}
-use Rattle.exponential.specs.Exp.{limit, lowerLimit, shifted, steps, rest, growth, product, expPair, total, expOf}
+use lib.Ieee.{Float, fin, binary64, unlike, ofBits, mul, neg}
+use Rattle.machine.specs.Small.{one}
+use Rattle.exponential.specs.Exp.{expOf}
 use Rattle.exponential.specs.Cosh.{coshOf}
 use Rattle.exponential.specs.Sinh.{sinhOf}
-use Rattle.exponential.proofs.ExpFacts.{exp-at-zero}
+use Rattle.exponential.proofs.ExpFacts.{exp-at-zero, exp-at-minus-zero}
 use Rattle.exponential.proofs.CoshFacts.{cosh-at-zero}
 use Rattle.exponential.proofs.SinhFacts.{sinh-at-zero}
 use Rattle.circular.specs.Sin.{sinOf}
@@ -16,16 +16,13 @@ use Rattle.circular.proofs.Zeros.{sin-zero, sin-minus-zero, cos-zero}
 use Rattle.complex.specs.declared.number.Complex.{Complex}
 use Rattle.complex.specs.Functions.{polarOf, complexExpOf, complexCoshOf, complexSinhOf}
 
-abbrev one : Float
-one = ofBits binary64 0x3FF0000000000000
-
 abbrev nought : Bool → Float
 nought s = fin s 0 (pos 0)
 
 exp-zero : (s : Bool) → expOf (nought s) ≡ one
-unfolding expOf limit lowerLimit total expPair product growth steps rest shifted coarsePower finePower coarseHigh coarseLow fineHigh fineLow ofBits toBits add sub mul neg le lt
+unfolding ofBits neg
 exp-zero false = exp-at-zero
-exp-zero true = refl
+exp-zero true = exp-at-minus-zero
 
 cosh-zero : (s : Bool) → coshOf (nought s) ≡ one
 unfolding ofBits coshOf

@@ -1,6 +1,3 @@
 -- The theorems, by topic.
 pub mod AtZero
-pub mod Factors
 pub mod LostFacts
-pub mod PowerFacts
-pub mod Sharing

@@ -12,7 +12,6 @@ use Rattle.circular.specs.Sin.{sinOf}
 use Rattle.circular.specs.Cos.{cosOf}
 use Rattle.angle.specs.Angle.{angleOf}
 use Rattle.roots.specs.Hypot.{hypotOf}
-use Rattle.roots.specs.Sqrt.{sqrtOf}
 use Rattle.complex.specs.declared.number.Complex.{Complex}
 use Rattle.complex.specs.Arithmetic.{plusOf, conjugateOf, productOf, timesReal}
 
@@ -37,19 +36,12 @@ complexLnOf z = lnWith (modulusOf z) (argumentOf z)
 unfoldable pub atHalfAngle : Float → Float → Complex
 atHalfAngle root angle = polarOf root (angle ⊘ ofBits binary64 0x4000000000000000)
 
--- the root of the modulus at half the angle
-unfoldable pub complexSqrtOf : Complex → Complex
-complexSqrtOf z = atHalfAngle (sqrtOf (modulusOf z)) (argumentOf z)
-
 -- 2/z: with t = 1/|z| and s = (re t, -im t), each part of s doubled, then times t
 unfoldable pub twoOverWith : Complex → Float → Complex
 twoOverWith z modulus =
     let t = ofBits binary64 0x3FF0000000000000 ⊘ modulus in
     let s = timesReal (conjugateOf z) t in
     timesReal (plusOf s s) t
-
-unfoldable pub twoOverOf : Complex → Complex
-twoOverOf z = twoOverWith z (modulusOf z)
 
 -- ---- exponential and hyperbolic
 unfoldable pub complexExpOf : Complex → Complex
@@ -64,6 +56,3 @@ complexSinhOf z = record { re = sinhOf (z .re) ⊗ cosOf (z .im); im = coshOf (z
 -- ---- powers: as many products in a row, starting from 1
 unfoldable pub powerOf : Complex → ℕ → Complex
 powerOf z i = iterate i (λ p. productOf p z) (record { re = ofBits binary64 0x3FF0000000000000; im = ofBits binary64 0 })
-
-unfoldable pub realPowerOf : Float → ℕ → Float
-realPowerOf x i = iterate i (λ p. p ⊗ x) (ofBits binary64 0x3FF0000000000000)

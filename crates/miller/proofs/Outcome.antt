@@ -19,9 +19,10 @@ use Rattle.miller.specs.declared.search.Start.{Start}
 use Rattle.miller.specs.declared.search.Start.the-variants.{At, Unmet}
 use Rattle.miller.specs.declared.seeds.MillerSeeds.{MillerSeeds}
 use Rattle.miller.specs.declared.seeds.MillerSeeds.the-variants.{Pair, Refused}
+use Rattle.machine.specs.Small.{one}
 use Rattle.miller.specs.Whole.{truncated}
 use Rattle.miller.specs.Point.{isReal}
-use Rattle.miller.specs.Trials.{one, metAfter, trialsTaken, trialIndex}
+use Rattle.miller.specs.Trials.{metAfter, trialsTaken, trialIndex}
 use Rattle.miller.specs.Search.{isStart, startFrom, threshold, rawStart, corrected, convergenceTest, byRecurrence, formulaOf, startOf}
 use Rattle.miller.specs.Seeds.{realSeeds, complexSeeds, seedsFrom, seedsAt, seedsOf}
 use Rattle.miller.proofs.BackwardFacts.{real-steps-are-the-start, complex-steps-are-the-start}

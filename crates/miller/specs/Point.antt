@@ -1,14 +1,15 @@
 -- What Miller's method is asked with. Definitions only.
 use mathlib.Core.Bool.{Bool}
-use lib.Ieee.{Float, binary64, ofBits, eq}
+use lib.Ieee.{Float, eq}
+use Rattle.machine.specs.Small.{nothing}
 use Rattle.complex.specs.declared.number.Complex.{Complex}
 use Rattle.roots.specs.Sqrt.{sqrtOf}
 use Rattle.miller.specs.declared.point.Point.{Point}
 
--- a zero imaginary part, -0 too
+-- A zero imaginary part, -0 too: the Rust text's real path (src/amos/right_half_plane.rs), of which ZBKNU has none.
 unfoldable pub isReal : Complex → Bool
-isReal z = eq (z .im) (ofBits binary64 0)
+isReal z = eq (z .im) nothing
 
 -- what the real path is asked with: the modulus is the real part, and there is no angle
 unfoldable pub pointOf : Complex → Point
-pointOf z = record { z = z; modulus = z .re; root = sqrtOf (z .re); angle = ofBits binary64 0 }
+pointOf z = record { z = z; modulus = z .re; root = sqrtOf (z .re); angle = nothing }

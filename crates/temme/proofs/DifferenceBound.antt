@@ -18,7 +18,7 @@ use Rattle.machine.specs.Constants.{tolerance}
 use Rattle.complex.specs.Lost.{magnitudeOf}
 use Rattle.temme.specs.declared.difference.Partial.{Partial}
 use Rattle.temme.specs.Difference.{differenceCoefficients, fractionSquare, startSeries, withTerm, seriesOf, SeriesEnds}
-use Rattle.temme.specs.Sum.{one}
+use Rattle.machine.specs.Small.{one}
 use Rattle.temme.proofs.Counted.{after-count, run-counted}
 use Rattle.temme.proofs.TemmeBound.{mul-up-round}
 use Rattle.temme.proofs.Magnitudes.{magnitude-bare, magnitude-up}

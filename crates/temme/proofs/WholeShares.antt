@@ -13,7 +13,7 @@ use Rattle.laws.proofs.Power.{unique}
 use Rattle.laws.proofs.Whole.{whole-value}
 use Rattle.laws.specs.Operators.{_⊕_, _⊖_, _⊗_, _⊘_}
 use Rattle.circular.proofs.Whole.{add-whole, sub-whole, mul-whole}
-use Rattle.temme.specs.Shares.{term, isWhole, shareOf, squareShareOf, wholeSharesOf, sharesOf}
+use Rattle.temme.specs.shapes.Shares.{term, isWhole, shareOf, squareShareOf, wholeSharesOf, sharesOf}
 use Rattle.laws.proofs.Zero.{zeroOf, zero-is}
 
 -- ---- a whole number with a zero added or taken

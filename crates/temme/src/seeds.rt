@@ -1,11 +1,11 @@
 // The two seeds from Temme's sum, and sinh μ over the fraction with μ = fraction · ln(2/z), by which the caller tells an overflow.
 // From src/amos/right_half_plane.rs, compute_small_z_power_series (ZBKNU). Promised for every argument: specs/Seeds.antt; below |z| = 2^-52 no term is added.
 ghost use mathlib.Core.Path.{_≡_};
-ghost use Rattle.temme.specs.Seeds.{shincOf, begunOf, startOf, groundOf, summedOf, seedsOf};
+ghost use Rattle.temme.specs.Seeds.{shincOf, begunOf, startOf, fixedOf, summedOf, seedsOf};
 use crate::gammas::Gammas;
 use crate::gammas::gammas_at;
 use crate::hyperbolic::hyperbolic;
-use crate::sum::Ground;
+use crate::sum::Fixed;
 use crate::sum::Terms;
 use crate::sum::sum;
 use complex::number::Complex;
@@ -97,10 +97,10 @@ fn begun(temme_coeff: Complex, neg_order_term: Complex, pos_order_term: Complex)
     }
 }
 
-fn ground(z: Complex, modulus: f64, fraction: f64, fraction_square: f64) -> Ground
-    ensures { λ r. ⌜ r ≡ groundOf z modulus fraction «fraction_square» ⌝ }
+fn fixed(z: Complex, modulus: f64, fraction: f64, fraction_square: f64) -> Fixed
+    ensures { λ r. ⌜ r ≡ fixedOf z modulus fraction «fraction_square» ⌝ }
 {
-    Ground {
+    Fixed {
         z_sqr_over_4: square(z).times_real(0.25),
         abs_z_sqr_over_4: 0.25 * modulus * modulus,
         fraction,
@@ -113,7 +113,7 @@ fn summed(z: Complex, modulus: f64, fraction: f64, fraction_square: f64, begun: 
     ensures { λ r. ⌜ r ≡ summedOf z modulus fraction «fraction_square» begun ⌝ }
 {
     if modulus >= Machine::TOLERANCE {
-        return sum(ground(z, modulus, fraction, fraction_square), begun);
+        return sum(fixed(z, modulus, fraction, fraction_square), begun);
     }
     begun
 }

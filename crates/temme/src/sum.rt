@@ -9,7 +9,7 @@ use complex::number::Complex;
 use machine::constants::Machine;
 
 // What each turn takes: z²/4, |z|²/4, the fraction ν and its square.
-pub struct Ground {
+pub struct Fixed {
     pub z_sqr_over_4: Complex,
     pub abs_z_sqr_over_4: f64,
     pub fraction: f64,
@@ -28,7 +28,7 @@ pub struct Terms {
     pub terms: u32,
 }
 
-fn next(g: Ground, s: Terms) -> Terms
+fn next(g: Fixed, s: Terms) -> Terms
     requires { ⌜ s .terms < 999 ⌝ }
     ensures { λ r. ⌜ r ≡ nextTerms g s ⌝ }
 {
@@ -67,7 +67,7 @@ fn next(g: Ground, s: Terms) -> Terms
     }
 }
 
-pub fn sum(g: Ground, start: Terms) -> Terms
+pub fn sum(g: Fixed, start: Terms) -> Terms
     requires { ⌜ start .terms ≡ 0 ⌝ }
     ensures { λ r. ⌜ r ≡ sumOf g start ⌝ }
 {

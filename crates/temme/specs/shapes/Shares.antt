@@ -1,17 +1,18 @@
--- The reciprocals that the term k of Temme's sum takes, in `compute_small_z_power_series` of src/amos/right_half_plane.rs (ZBKNU). Definitions only.
+-- How it is computed, not what: the four reciprocals that the term k of Temme's sum takes, worked out together, since at the fraction 0 they are two.
+-- The sum itself (specs/Sum.antt) divides where it stands. ZBKNU: RAK, 1/BK and STR behind the labels 60 and 90. Definitions only.
 use Prim.Native.Nat.{ℕ}
 use mathlib.Core.Bool.{Bool, _&&_}
 use lib.IntN.{pos}
-use lib.Ieee.{Float, binary64, ofBits, ofInt, eq}
+use lib.Ieee.{Float, binary64, ofInt, eq}
 use Rattle.laws.specs.Operators.{_⊕_, _⊖_, _⊗_, _⊘_}
+use Rattle.machine.specs.Small.{nothing, one}
 use Rattle.temme.specs.declared.shares.Reciprocals.{Reciprocals}
-use Rattle.temme.specs.Sum.{one}
 
 abbrev pub term : ℕ → Float
 term k = ofInt binary64 (pos k)
 
 unfoldable pub isWhole : Float → Float → Bool
-isWhole fraction square = eq fraction (ofBits binary64 0) && eq square (ofBits binary64 0)
+isWhole fraction square = eq fraction nothing && eq square nothing
 
 unfoldable pub shareOf : ℕ → Float
 shareOf k = one ⊘ term k

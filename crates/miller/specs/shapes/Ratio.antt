@@ -1,0 +1,16 @@
+-- How it is computed, not what: the ratio of the two seeds is worked out before the first of them, and the second is their product; where one value alone
+-- is asked for, neither is worked out. The seeds themselves are those of specs/Seeds.antt. Definitions only.
+use mathlib.Core.Bool.{Bool, cond}
+use lib.Ieee.{Float}
+use Rattle.machine.specs.Small.{nothing}
+use Rattle.complex.specs.declared.number.Complex.{Complex}
+use Rattle.complex.specs.Arithmetic.{productOf}
+use Rattle.miller.specs.declared.backward.ComplexSteps.{ComplexSteps}
+use Rattle.miller.specs.Backward.{onRealLine}
+use Rattle.miller.specs.Seeds.{complexRatio}
+
+unfoldable pub ratioUnless : Bool → Complex → Float → ComplexSteps → Complex
+ratioUnless alone z fraction s = cond alone (onRealLine nothing) (complexRatio z fraction s)
+
+unfoldable pub productUnless : Bool → Complex → Complex → Complex
+productUnless alone ratio first = cond alone (onRealLine nothing) (productOf ratio first)

@@ -12,11 +12,12 @@ use Rattle.laws.proofs.Order.{nought, le-trans-float, finite-between}
 use Rattle.laws.proofs.Interval.{Between}
 use Rattle.laws.proofs.Bound.{every, every-at}
 use Rattle.laws.proofs.Mag.{Mag, AtLeast, magTest, atLeastTest, mag-literal, at-least-literal, mag-weaken, at-least-of-le, mag-mul, mag-div, mag-add, mag-sub}
+use Rattle.machine.specs.Small.{nothing, one}
 use Rattle.angle.proofs.Ends.{product-at-least-zero}
 use Rattle.angle.proofs.Magnitude.{mag-below, at-least-add, mag-cut, binade}
 use Rattle.angle.proofs.Sides.{from-zero}
 use Rattle.angle.proofs.Step.{long-finite, long-positive, short-above, quotient-between, index-below, value-between}
-use Rattle.angle.specs.Angle.{zero, one, leading, stepOf, tangentOf, seriesOf, joinedOf, tabledArcOf, arcOf}
+use Rattle.angle.specs.Angle.{leading, stepOf, tangentOf, seriesOf, joinedOf, tabledArcOf, arcOf}
 use Rattle.angle.specs.Tables.{atanHigh, atanLow, tabledOf}
 use Rattle.angle.specs.Range.{lowest, highest, Ranged}
 use Rattle.angle.specs.declared.angle.Triangle.{Triangle}
@@ -66,7 +67,7 @@ pub record Operands (a b t h : Float) : Type 0 where
   pub h-size : Mag binary64 (suc p) h
 
 one-size : Mag binary64 1074 one
-unfolding one ofBits magTest
+unfolding ofBits magTest
 one-size = mag-literal tt
 
 module _ (a b t h : Float) (o : Operands a b t h) where
@@ -136,11 +137,10 @@ module _ (a b t h : Float) (o : Operands a b t h) where
     low-size = let k = o .most in let l = o .least in mag-mul rest-size inverse-size (omega arith) (omega arith)
 
 -- ---- of a triangle in range
-pub unit-between : (t : Float) → T (le zero t && le t one) → Between zero one t
-unfolding one
+pub unit-between : (t : Float) → T (le nothing t && le t one) → Between nothing one t
 unit-between t h =
-    let a = and-l (le zero t) (le t one) h in
-    let b = and-r (le zero t) (le t one) h in
+    let a = and-l (le nothing t) (le t one) h in
+    let b = and-r (le nothing t) (le t one) h in
     (finite-between nought t one tt (unfold ofBits in tt) (from-zero t a) b, a, b)
 
 lowest-over : AtLeast binary64 200 lowest
@@ -151,7 +151,7 @@ highest-size : Mag binary64 2074 highest
 unfolding highest ofBits magTest
 highest-size = mag-literal tt
 
-module _ (s : Triangle) (r : Ranged s) (t : Float) (i : Between zero one t) where
+module _ (s : Triangle) (r : Ranged s) (t : Float) (i : Between nothing one t) where
   pub operands : Operands (s .long) (s .short) t (leading (s .long))
   unfolding leading lowest
   operands =
@@ -244,15 +244,15 @@ joined-size base g p q v h l =
       low = mag-add {m = 1098} carried (mag-add lows (series-size (g .value) v) (lit< tt) (lit< tt) (lit≤ tt)) (lit< tt) (lit< tt) (lit≤ tt);
     }
 
-zero-size : Mag binary64 1074 zero
-unfolding zero ofBits magTest
+zero-size : Mag binary64 1074 nothing
+unfolding ofBits magTest
 zero-size = mag-literal tt
 
 pub arc-size : (s : Triangle) → Ranged s → ArcSize (arcOf s)
 unfolding arcOf tabledArcOf tabledOf
 arc-size s r =
     either (λ (a : Sum). ArcSize a) (le (s .short) (mul binary64 (s .long) (ofBits binary64 0x3E30000000000000)))
-    (record { high = div binary64 (s .short) (s .long); low = zero })
+    (record { high = div binary64 (s .short) (s .long); low = nothing })
     (tabledArcOf s)
     (record { high = mag-weaken (mag-below (div binary64 (s .short) (s .long)) one-size (from-zero (div binary64 (s .short) (s .long)) (quotient-between s r .1)) (quotient-between s r .2)) (lit≤ tt); low = mag-weaken zero-size (lit≤ tt) })
     (joined-size (tabledOf (stepOf s .index)) (tangentOf s (stepOf s .value))

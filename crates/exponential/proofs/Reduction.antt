@@ -11,8 +11,9 @@ use Rattle.laws.proofs.Order.{le-refl-finite, le-trans-float, finite-between, a
 use Rattle.laws.proofs.Interval.{Interval, iv, In, checked, mulI, mulBy, mulPos, mul-in}
 use Rattle.laws.proofs.Value.{finite-no-nan}
 use Rattle.laws.proofs.Bits.{bits-between, bits-finite}
+use Rattle.machine.specs.Small.{half}
 use Rattle.exponential.proofs.Tests.{not-below, ordered}
-use Rattle.exponential.specs.Exp.{limit, lowerLimit, half, shifted, steps}
+use Rattle.exponential.specs.Exp.{limit, lowerLimit, shifted, steps}
 
 -- where the extremes are rounded to
 
@@ -92,16 +93,16 @@ unfolding ofBits neg
 outer = iv (neg (ofBits binary64 0x4087500000000000)) (ofBits binary64 0x4086380000000000)
 
 one-half : Interval
-unfolding ofBits half
+unfolding ofBits
 one-half = iv half half
 
 module _ (x : Float) (l : T (le (neg (ofBits binary64 0x4087500000000000)) x)) (h : T (le x (ofBits binary64 0x4086380000000000))) where
   halved : In (mulI binary64 one-half outer) (mul binary64 half x)
-  unfolding outer one-half ofBits neg half le mulI mulBy mulPos checked mul
+  unfolding outer one-half ofBits neg le mulI mulBy mulPos checked mul
   halved = mul-in binary64 one-half outer half x (tt, tt, tt, tt) (tt, tt, l, h) tt
 
   pub halved-within : T (le lowerLimit (mul binary64 half x)) × T (le (mul binary64 half x) limit)
-  unfolding outer one-half ofBits neg half le mulI mulBy mulPos checked mul lowerLimit limit
+  unfolding outer one-half ofBits neg le mulI mulBy mulPos checked mul lowerLimit limit
   halved-within = (
     le-trans-float lowerLimit (neg (ofBits binary64 0x4077500000000000)) (mul binary64 half x) tt (halved .2),
     le-trans-float (mul binary64 half x) (ofBits binary64 0x4076380000000000) limit (halved .3) tt,

@@ -1,4 +1,5 @@
--- The natural logarithm, by its bits and the tables. Definitions only.
+-- The natural logarithm, by its bits and the tables: x = 2^e m, ln x = e ln 2 - ln c + ln(1 + r) with c near 1/m. Own design, after the table method: the scope
+-- leaves the formula open. DLMF 4.6.1 for the series. Definitions only.
 use Prim.Native.Nat.{ℕ, zero, suc, _+_, _-_, _*_, _/_, _%_, _^_}
 use mathlib.Core.Bool.{true, false, cond}
 use lib.Dec.{ltb}

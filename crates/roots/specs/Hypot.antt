@@ -1,4 +1,4 @@
--- The length of the vector (x, y), by a root of its own. Definitions only.
+-- The length of the vector (x, y), Algorithm 644's XZABS, by a root of its own. Own design: the scope leaves the formula open. Definitions only.
 use Prim.Native.Nat.{ℕ, zero, suc, _+_, _*_, _/_, _%_, _^_}
 use mathlib.Core.Bool.{Bool, true, false, cond}
 use lib.IntN.{ℤ}

@@ -34,22 +34,22 @@ belowOf a t h = mul binary64 t (sub binary64 a h)
 abbrev pub numeratorOf : Float → Float → Float → Float → Float
 numeratorOf a b t h = sub binary64 (aboveOf b t h) (belowOf a t h)
 
-abbrev pub numeratorLowOf : Float → Float → Float → Float → Float
+abbrev numeratorLowOf : Float → Float → Float → Float → Float
 numeratorLowOf a b t h = sub binary64 (sub binary64 (aboveOf b t h) (numeratorOf a b t h)) (belowOf a t h)
 
 abbrev pub denominatorOf : Float → Float → Float → Float
 denominatorOf a b t = add binary64 a (mul binary64 t b)
 
-abbrev pub denominatorLowOf : Float → Float → Float → Float
+abbrev denominatorLowOf : Float → Float → Float → Float
 denominatorLowOf a b t = add binary64 (sub binary64 a (denominatorOf a b t)) (mul binary64 t b)
 
 abbrev pub inverseOf : Float → Float → Float → Float
 inverseOf a b t = div binary64 one (denominatorOf a b t)
 
-abbrev pub leftOf : Float → Float → Float → Float → Float → Float → Float
+abbrev leftOf : Float → Float → Float → Float → Float → Float → Float
 leftOf a b t h v e = sub binary64 (sub binary64 (numeratorOf a b t h) (mul binary64 v e)) (mul binary64 v (sub binary64 (denominatorOf a b t) e))
 
-abbrev pub restOf : Float → Float → Float → Float → Float → Float → Float
+abbrev restOf : Float → Float → Float → Float → Float → Float → Float
 restOf a b t h v e = add binary64 (leftOf a b t h v e) (sub binary64 (numeratorLowOf a b t h) (mul binary64 v (denominatorLowOf a b t)))
 
 -- what is known of the operands
@@ -133,7 +133,7 @@ module _ (a b t h : Float) (o : Operands a b t h) where
         let r : Mag binary64 (o .p + 8) (sub binary64 (numeratorLowOf a b t h) (mul binary64 v (denominatorLowOf a b t))) = mag-sub numerator-low-size q (omega arith) (omega arith) (omega arith) in
         mag-add left-size r (omega arith) (omega arith) (omega arith)
 
-    pub low-size : Mag binary64 1083 (mul binary64 (restOf a b t h v e) (inverseOf a b t))
+    low-size : Mag binary64 1083 (mul binary64 (restOf a b t h v e) (inverseOf a b t))
     low-size = let k = o .most in let l = o .least in mag-mul rest-size inverse-size (omega arith) (omega arith)
 
 -- ---- of a triangle in range
@@ -173,15 +173,15 @@ module _ (s : Triangle) (r : Ranged s) (t : Float) (i : Between nothing one t) w
         h-size = mag-cut (s .long) (r .held) (n .under);
       }
 
-  pub tangent-value-size : Mag binary64 1077 (tangentOf s t .value)
+  tangent-value-size : Mag binary64 1077 (tangentOf s t .value)
   unfolding tangentOf
   tangent-value-size = value-size (s .long) (s .short) t (leading (s .long)) operands
 
-  pub tangent-high-size : Mag binary64 1077 (tangentOf s t .high)
+  tangent-high-size : Mag binary64 1077 (tangentOf s t .high)
   unfolding tangentOf leading
   tangent-high-size = mag-cut (tangentOf s t .value) (mul-fits binary64 _ _) tangent-value-size
 
-  pub tangent-low-size : Mag binary64 1083 (tangentOf s t .low)
+  tangent-low-size : Mag binary64 1083 (tangentOf s t .low)
   unfolding tangentOf
   tangent-low-size =
       low-size (s .long) (s .short) t (leading (s .long)) operands (tangentOf s t .high) (leading (denominatorOf (s .long) (s .short) t)) tangent-high-size

@@ -19,7 +19,7 @@ use Rattle.angle.specs.Range.{lowest, highest, Ordered, Ranged}
 use Rattle.angle.specs.declared.angle.Triangle.{Triangle}
 
 -- ---- the constants as the laws have them
-pub zero-is : nothing ≡ nought
+zero-is : nothing ≡ nought
 unfolding ofBits
 zero-is = refl
 

@@ -49,7 +49,7 @@ module _ (s : Triangle) (r : Ranged s) where
   pub short-above : T (le nought (s .short))
   short-above = from-zero (s .short) (r .start)
 
-  pub short-finite : T (finite (s .short))
+  short-finite : T (finite (s .short))
   short-finite = finite-between nought (s .short) (s .long) tt long-finite short-above (r .order)
 
   pub quotient-between : Between nothing one (div binary64 (s .short) (s .long))

@@ -54,14 +54,14 @@ module _ (x : Float) (l : T (le lowerLimit x)) (h : T (le x limit)) where
       (add-mono binary64 x limit (ofBits binary64 0x42E8000000000000) (ofBits binary64 0x42E8000000000000) within-finite limit-finite shift-finite shift-finite h
       (le-refl-finite (ofBits binary64 0x42E8000000000000) shift-finite))
 
-  pub shifted-fits : T (fits binary64 (shifted x))
+  shifted-fits : T (fits binary64 (shifted x))
   unfolding shifted
   shifted-fits = add-fits binary64 x (ofBits binary64 0x42E8000000000000)
 
   pub shifted-bits : (0x42E7FFFFFFFFA7E0 ≤ toBits binary64 (shifted x)) × (toBits binary64 (shifted x) ≤ 0x42E8000000005820)
   shifted-bits = bits-between 0x42E7FFFFFFFFA7E0 0x42E8000000005820 (shifted x) (lit< tt) (lit< tt) (lit< tt) shifted-fits shifted-low shifted-high
 
-  pub shifted-finite : T (finite (shifted x))
+  shifted-finite : T (finite (shifted x))
   shifted-finite =
       finite-between (ofBits binary64 0x42E7FFFFFFFFA7E0) (shifted x) (ofBits binary64 0x42E8000000005820) (bits-finite 0x42E7FFFFFFFFA7E0 (lit< tt)) (bits-finite 0x42E8000000005820 (lit< tt))
       shifted-low shifted-high

@@ -106,7 +106,7 @@ module _ (modulus square test : Float) where
       r .before i l (omega arith)
 
 -- ---- the backward steps of an answer are its start, so at most 256; no start is refusal 6
-pub backward-is-start : (point : Point) (order : Order) (coefficient : Complex) (alone : Bool) (start : ℕ) → seedsFrom point order coefficient alone start .backward ≡ start
+backward-is-start : (point : Point) (order : Order) (coefficient : Complex) (alone : Bool) (start : ℕ) → seedsFrom point order coefficient alone start .backward ≡ start
 unfolding seedsFrom realSeeds complexSeeds
 backward-is-start point order coefficient alone start = go (isReal (point .z))
   where

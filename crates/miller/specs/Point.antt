@@ -1,6 +1,6 @@
 -- What Miller's method is asked with. Definitions only.
 use mathlib.Core.Bool.{Bool}
-use lib.Ieee.{Float, eq}
+use lib.Ieee.{eq}
 use Rattle.machine.specs.Small.{nothing}
 use Rattle.complex.specs.declared.number.Complex.{Complex}
 use Rattle.roots.specs.Sqrt.{sqrtOf}

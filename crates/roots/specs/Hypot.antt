@@ -1,7 +1,6 @@
 -- The length of the vector (x, y), Algorithm 644's XZABS, by a root of its own. Own design: the scope leaves the formula open. Definitions only.
 use Prim.Native.Nat.{ℕ, zero, suc, _+_, _*_, _/_, _%_, _^_}
 use mathlib.Core.Bool.{Bool, true, false, cond}
-use lib.IntN.{ℤ}
 use lib.Ieee.{Float, nan, inf, fin, binary64, add, mul, le, ofBits, toBits}
 use Rattle.roots.specs.Seed.{twiceRoot}
 

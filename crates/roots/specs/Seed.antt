@@ -1,5 +1,5 @@
 -- Twice the root of a number's significand: a seed from a table of quadratics, and one Heron step. Own design. Definitions only.
-use Prim.Native.Nat.{ℕ, _+_, _-_, _*_, _/_, _%_, _^_}
+use Prim.Native.Nat.{ℕ, _+_, _-_, _/_, _%_, _^_}
 use lib.ListN.{getD}
 use lib.Ieee.{Float, nan, binary64, add, sub, mul, div, ofBits}
 use Rattle.roots.specs.Tables.{constants, slopes, bends}

@@ -122,7 +122,7 @@ module _ (g : Fixed) (start : Terms) (none : start .terms ≡ 0) (whole : start 
   unfolding isSummed sumEnds
   stops k = ap (λ (t : Float). le t tolerance) (after-magnitude k)
 
-  pub sum-ends : Up (g .«abs_z_sqr_over_4») (num one) (den one) → EndsByTest (sumOf g start)
+  sum-ends : Up (g .«abs_z_sqr_over_4») (num one) (den one) → EndsByTest (sumOf g start)
   unfolding sumOf
   sum-ends b =
       let e = ends (g .«abs_z_sqr_over_4») b in
@@ -150,7 +150,3 @@ module _ (z : Complex) (m v w : Float) (h : T (le m (ofBits binary64 0x400000000
       go : (b : Bool) → le tolerance m ≡ b → seedsOf z m l v w .terms ≤ 18
       go true e = temme-ends _ _ _ _ (subst T (sym e) tt) .few
       go false e = rw e (lit≤ tt)
-
-pub nothing-added : (z l : Complex) (m v w : Float) → le tolerance m ≡ false → seedsOf z m l v w .terms ≡ 0
-unfolding seedsOf summedOf startOf
-nothing-added z l m v w e = rw e

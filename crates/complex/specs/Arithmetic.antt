@@ -5,6 +5,10 @@ use Rattle.laws.specs.Operators.{_⊕_, _⊖_, _⊗_, _⊘_}
 use Rattle.machine.specs.Small.{nothing}
 use Rattle.complex.specs.declared.number.Complex.{Complex}
 
+-- both parts +0
+abbrev pub zeroPair : Complex
+zeroPair = record { re = nothing; im = nothing }
+
 unfoldable pub plusOf : Complex → Complex → Complex
 plusOf z w = record { re = z .re ⊕ w .re; im = z .im ⊕ w .im }
 

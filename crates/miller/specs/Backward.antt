@@ -9,7 +9,7 @@ use Rattle.machine.specs.Constants.{tolerance}
 use Rattle.machine.specs.Small.{nothing, one, two}
 use Rattle.laws.specs.Operators.{_⊕_, _⊖_, _⊗_, _⊘_}
 use Rattle.complex.specs.declared.number.Complex.{Complex}
-use Rattle.complex.specs.Arithmetic.{plusOf, minusOf, productOf, timesReal, plusReal}
+use Rattle.complex.specs.Arithmetic.{zeroPair, plusOf, minusOf, productOf, timesReal, plusReal}
 use Rattle.miller.specs.declared.backward.RealSteps.{RealSteps}
 use Rattle.miller.specs.declared.backward.ComplexSteps.{ComplexSteps}
 use Rattle.miller.specs.Trials.{whole}
@@ -52,7 +52,7 @@ onRealLine x = record { re = x; im = nothing }
 unfoldable pub complexFirst : ℕ → ComplexSteps
 complexFirst start =
     record {
-      older = onRealLine nothing;
+      older = zeroPair;
       newer = onRealLine tolerance;
       sum = onRealLine tolerance;
       k = whole start;

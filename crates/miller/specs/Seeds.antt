@@ -8,7 +8,7 @@ use Rattle.machine.specs.Small.{nothing, half, one}
 use Rattle.roots.specs.Hypot.{magnitudeOf}
 use Rattle.complex.specs.declared.number.Complex.{Complex}
 use Rattle.complex.specs.Functions.{modulusOf}
-use Rattle.complex.specs.Arithmetic.{oppositeOf, conjugateOf, productOf, quotientOf, overReal, plusReal}
+use Rattle.complex.specs.Arithmetic.{zeroPair, oppositeOf, conjugateOf, productOf, quotientOf, overReal, plusReal}
 use Rattle.refusal.specs.declared.refusal.Refusal.the-variants.{Start}
 use Rattle.miller.specs.declared.point.Point.{Point}
 use Rattle.miller.specs.declared.point.Order.{Order}
@@ -52,7 +52,7 @@ complexRatio z fraction s =
 
 -- 0 where one value alone is asked for
 unfoldable pub complexSecond : Bool → Complex → Float → ComplexSteps → Complex → Complex
-complexSecond alone z fraction s first = cond alone (onRealLine nothing) (productOf (complexRatio z fraction s) first)
+complexSecond alone z fraction s first = cond alone zeroPair (productOf (complexRatio z fraction s) first)
 
 unfoldable pub complexFirstSeed : ComplexSteps → Complex → Complex
 complexFirstSeed s coefficient =

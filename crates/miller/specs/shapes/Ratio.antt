@@ -2,15 +2,13 @@
 -- is asked for, neither is worked out. The seeds themselves are those of specs/Seeds.antt. Definitions only.
 use mathlib.Core.Bool.{Bool, cond}
 use lib.Ieee.{Float}
-use Rattle.machine.specs.Small.{nothing}
 use Rattle.complex.specs.declared.number.Complex.{Complex}
-use Rattle.complex.specs.Arithmetic.{productOf}
+use Rattle.complex.specs.Arithmetic.{zeroPair, productOf}
 use Rattle.miller.specs.declared.backward.ComplexSteps.{ComplexSteps}
-use Rattle.miller.specs.Backward.{onRealLine}
 use Rattle.miller.specs.Seeds.{complexRatio}
 
 unfoldable pub ratioUnless : Bool → Complex → Float → ComplexSteps → Complex
-ratioUnless alone z fraction s = cond alone (onRealLine nothing) (complexRatio z fraction s)
+ratioUnless alone z fraction s = cond alone zeroPair (complexRatio z fraction s)
 
 unfoldable pub productUnless : Bool → Complex → Complex → Complex
-productUnless alone ratio first = cond alone (onRealLine nothing) (productOf ratio first)
+productUnless alone ratio first = cond alone zeroPair (productOf ratio first)

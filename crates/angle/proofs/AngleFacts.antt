@@ -16,8 +16,8 @@ use Rattle.laws.proofs.Mag.{Mag, magTest, mag-literal, mag-neg, mag-add, mag-su
 use Rattle.angle.proofs.Arc.{ArcSize, arc-size}
 use Rattle.angle.proofs.Sides.{magnitude-is, negative-is, magnitude-fits, magnitude-above, sides-ordered, scaled-ranged}
 use Rattle.angle.specs.Angle.{infinity, grid, negative, magnitude, leading, largerOf, smallerOf, sidesOf, times, flat, even, loweredOf, raisedOf, scaledOf, stepOf, tangentOf, seriesOf, joinedOf, tabledArcOf, arcOf, awayOf, backOf, quarterTurn, halfTurn, turnedOf, upperOf, angleOf}
-use Rattle.angle.specs.Tables.{atanHigh, atanLow, tabledOf}
-use Rattle.angle.specs.declared.tables.Sum.{Sum}
+use Rattle.angle_tables.specs.Tables.{atanHigh, atanLow, tabledOf}
+use Rattle.angle_tables.specs.declared.tables.Sum.{Sum}
 
 -- ---- finite
 away-size : (c a : Sum) → Mag binary64 1076 (c .high) → Mag binary64 1076 (c .low) → ArcSize a → Mag binary64 1102 (awayOf c a)

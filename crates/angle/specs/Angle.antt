@@ -1,15 +1,15 @@
 -- The angle of the point (x, y), atan2(y, x), from -π to π. The longer of |x| and |y| is a side of a triangle with an angle of at most π/4,
--- whose tangent is shorter / longer; that angle is a tabled atan(j/64) and a rest by a series, as an unevaluated sum, and is then
--- turned into its quadrant. The sign of y is put back last. A not-a-number gives the fixed one. Own design, after the table method: the scope leaves
--- the formula open. DLMF 4.24.3 for the series, 4.24.15 for the step from a tabled arc. Definitions only.
+-- whose tangent is shorter / longer; that angle is a tabled atan(j/64) and a rest by a series, as an unevaluated sum, and is then turned
+-- into its quadrant. The sign of y is put back last. A not-a-number gives the fixed one. Own design, after the table method: the scope
+-- leaves the formula open. DLMF 4.24.3 for the series, 4.24.15 for the step from a tabled arc. Definitions only.
 use Prim.Native.Nat.{_-_, _%_}
 use mathlib.Core.Bool.{Bool, _||_, cond}
 use lib.Dec.{leb}
 use lib.Ieee.{Float, nan, binary64, ofBits, toBits, neg, add, sub, mul, div, lt, le, eq, isNan}
 use Rattle.machine.specs.Small.{nothing, one}
-use Rattle.angle.specs.Tables.{tabledOf}
+use Rattle.angle_tables.specs.Tables.{tabledOf}
 use Rattle.angle.specs.declared.angle.Triangle.{Triangle}
-use Rattle.angle.specs.declared.tables.Sum.{Sum}
+use Rattle.angle_tables.specs.declared.tables.Sum.{Sum}
 use Rattle.angle.specs.declared.angle.Tangent.{Tangent}
 use Rattle.angle.specs.declared.angle.Step.{Step}
 

@@ -6,10 +6,11 @@ ghost use mathlib.Core.Bool.{not, _&&_};
 ghost use lib.Dec.{T};
 ghost use lib.Ieee.{isNan, le};
 ghost use Rattle.machine.specs.Small.{nothing, one};
-ghost use Rattle.angle.specs.Angle.{negative, magnitude, leading, largerOf, smallerOf, sidesOf, loweredOf, raisedOf, scaledOf, stepOf, tangentOf, seriesOf, joinedOf, tabledArcOf, arcOf, turnedOf, awayOf, upperOf, angleOf};
+ghost use Rattle.angle.specs.Angle.{negative, magnitude, leading, largerOf, smallerOf, sidesOf, loweredOf, raisedOf, scaledOf};
+ghost use Rattle.angle.specs.Angle.{stepOf, tangentOf, seriesOf, joinedOf, tabledArcOf, arcOf, turnedOf, awayOf, upperOf, angleOf};
 ghost use Rattle.angle.specs.Range.{Ranged};
-use crate::tables::Sum;
-use crate::tables::tabled;
+use angle_tables::tables::Sum;
+use angle_tables::tables::tabled;
 use machine::constants;
 
 // atan v = v + A3 v^3 + A5 v^5 + A7 v^7, fitted to |v| <= 1/128

@@ -1,4 +1,5 @@
--- An angle a without a minus sign as hi + lo and a number of quarter turns, counted to 4. Own design: the scope leaves the formula open. Definitions only.
+-- An angle a without a minus sign as hi + lo and a number of quarter turns, counted to 4. Own design: the scope leaves the formula open.
+-- Definitions only.
 use Prim.Native.Nat.{_-_, _%_}
 use mathlib.Core.Bool.{cond}
 use lib.Ieee.{Float, binary64, ofBits, toBits, rem, lt}
@@ -40,8 +41,8 @@ leading r = let b = toBits binary64 r in ofBits binary64 (b - b % 134217728)
 unfoldable pub withinTwo : Float → Float
 withinTwo a = cond (lt (ofBits binary64 0x4130000000000000) a) (rem binary64 a two) a
 
--- π a: the nearest whole number of halves is what 2 a adds to 2^52, and what is left of a times π in two parts, 3.1415926814079285 of 26 digits
--- and -2.7818135228334233e-8
+-- π a: the nearest whole number of halves is what 2 a adds to 2^52, and what is left of a times π in two parts, 3.1415926814079285 of 26
+-- digits and -2.7818135228334233e-8
 unfoldable pub halvesOf : Float → Reduced
 halvesOf a =
     let piHigh = ofBits binary64 0x400921FB58000000 in

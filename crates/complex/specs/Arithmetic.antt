@@ -1,5 +1,5 @@
--- Complex arithmetic on pairs of f64 parts: each operation on a part rounds once. The scope's section Arithmetic, after num's complex::Complex; in Algorithm 644
--- the product is ZMLT and the quotient ZDIV. Definitions only.
+-- Complex arithmetic on pairs of f64 parts: each operation on a part rounds once. The scope's section Arithmetic, after num's
+-- complex::Complex; in Algorithm 644 the product is ZMLT and the quotient ZDIV. Definitions only.
 use lib.Ieee.{Float, neg}
 use Rattle.laws.specs.Operators.{_⊕_, _⊖_, _⊗_, _⊘_}
 use Rattle.machine.specs.Small.{nothing}

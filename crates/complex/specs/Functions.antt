@@ -1,5 +1,5 @@
--- The functions of a complex number, by their real formulas: the scope's section Arithmetic, after num's complex::Complex. In Algorithm 644 the modulus is
--- XZABS, ln XZLOG, the root XZSQRT, e^z XZEXP, cosh and sinh ZSHCH. Definitions only.
+-- The functions of a complex number, by their real formulas: the scope's section Arithmetic, after num's complex::Complex. In Algorithm 644
+-- the modulus is XZABS, ln XZLOG, the root XZSQRT, e^z XZEXP, cosh and sinh ZSHCH. Definitions only.
 -- A function of the modulus and the angle is defined on these two first: a caller may have them already.
 use Prim.Native.Nat.{ℕ}
 use lib.Ieee.{Float}

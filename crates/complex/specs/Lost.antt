@@ -1,5 +1,5 @@
--- ZUCHK, src/amos/utils.rs will_underflow. When a pair of parts is lost: the smaller magnitude is at most A and the larger one is below the smaller one times 2^52. Definitions only.
--- Every comparison with a not-a-number fails, so a pair with such a part is not lost.
+-- ZUCHK, src/amos/utils.rs will_underflow. When a pair of parts is lost: the smaller magnitude is at most A and the larger one is below the
+-- smaller one times 2^52. Definitions only. Every comparison with a not-a-number fails, so a pair with such a part is not lost.
 use mathlib.Core.Bool.{Bool, _&&_, cond}
 use lib.Ieee.{Float, binary64, neg, lt, le, mul}
 use Rattle.machine.specs.Constants.{absoluteApproximationLimit, inverseTolerance}

@@ -2,7 +2,8 @@
 // Promised: each is its definition in specs/Functions.antt, for every pair of parts. A form that takes what its caller has
 // already worked out, the modulus, the angle or a root, is the plain one with that put in.
 ghost use mathlib.Core.Path.{_≡_};
-ghost use Rattle.complex.specs.Functions.{modulusOf, argumentOf, lnWith, complexLnOf, polarOf, atHalfAngle, complexExpOf, complexCoshOf, complexSinhOf, twoOverWith};
+ghost use Rattle.complex.specs.Functions.{modulusOf, argumentOf, lnWith, complexLnOf, polarOf, atHalfAngle, twoOverWith};
+ghost use Rattle.complex.specs.Functions.{complexExpOf, complexCoshOf, complexSinhOf};
 use crate::number::Complex;
 use angle::angle::angle;
 use circular::sin_cos::sin_cos;
@@ -82,7 +83,26 @@ pub fn ln_with(modulus: f64, angle: f64) -> Complex
     }
 }
 
+// With nothing to work out at 0.
 pub fn exp_cosh_sinh(z: Complex) -> ExpCoshSinh
+    ensures { λ r. ⌜ (r .exp ≡ complexExpOf z) × (r .cosh ≡ complexCoshOf z) × (r .sinh ≡ complexSinhOf z) ⌝ }
+{
+    if z.re == 0.0 {
+        if z.im == 0.0 {
+            return ExpCoshSinh {
+                exp: Complex { re: 1.0, im: z.im },
+                cosh: Complex {
+                    re: 1.0,
+                    im: z.re * z.im,
+                },
+                sinh: z,
+            };
+        }
+    }
+    off_zero(z)
+}
+
+fn off_zero(z: Complex) -> ExpCoshSinh
     ensures { λ r. ⌜ (r .exp ≡ complexExpOf z) × (r .cosh ≡ complexCoshOf z) × (r .sinh ≡ complexSinhOf z) ⌝ }
 {
     let turn = sin_cos(z.im);

@@ -1,5 +1,5 @@
--- e^x for every x, by two tables and a polynomial up to 705 in magnitude, by the square of e^(x/2) beyond. Own design, after the table method: the scope
--- leaves the formula open. DLMF 4.2.19 for the series. Definitions only.
+-- e^x for every x, by two tables and a polynomial up to 705 in magnitude, by the square of e^(x/2) beyond. Own design, after the table
+-- method: the scope leaves the formula open. DLMF 4.2.19 for the series. Definitions only.
 use mathlib.Core.Bool.{false, cond, _&&_}
 use Prim.Native.Nat.{ℕ, _-_, _/_, _%_}
 use lib.Ieee.{Float, nan, inf, binary64, ofBits, toBits, neg, lt, le, ne}

@@ -1,7 +1,7 @@
--- Miller's backward steps: k falls from the start to 1, and each step counts itself. ZBKNU, 'BACKWARD RECURRENCE LOOP FOR MILLER ALGORITHM', labels 180 and 190;
--- `compute_large_z_miller_seeds` of src/amos/right_half_plane.rs. DLMF 3.6(iii) has Miller's algorithm, and 10.39.6 K as U(ν + 1/2, 2ν + 1, 2z), whose
--- recurrence in the first argument, 13.3.7, these steps are, with u(k) = (1/4 - ν²)(9/4 - ν²) .. ((k - 1/2)² - ν²) / k! times U(ν + 1/2 + k, 2ν + 1, 2z).
--- Definitions only.
+-- Miller's backward steps: k falls from the start to 1, and each step counts itself. ZBKNU, 'BACKWARD RECURRENCE LOOP FOR MILLER
+-- ALGORITHM', labels 180 and 190; `compute_large_z_miller_seeds` of src/amos/right_half_plane.rs. DLMF 3.6(iii) has Miller's algorithm, and
+-- 10.39.6 K as U(ν + 1/2, 2ν + 1, 2z), whose recurrence in the first argument, 13.3.7, these steps are, with u(k) = (1/4 - ν²)(9/4 - ν²) ..
+-- ((k - 1/2)² - ν²) / k! times U(ν + 1/2 + k, 2ν + 1, 2z). Definitions only.
 use Prim.Native.Nat.{ℕ, _+_}
 use lib.Ieee.{Float}
 use Rattle.laws.specs.Iterate.{iterate}

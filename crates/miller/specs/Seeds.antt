@@ -22,7 +22,8 @@ use Rattle.miller.specs.Point.{isReal}
 use Rattle.miller.specs.Search.{startOf}
 use Rattle.miller.specs.Backward.{realSteps, complexSteps, onRealLine}
 
--- label 200: ((fraction + 1/2 - ratio) / x + 1) first, where ratio is the older of the last two values over the newer; 0 where one value alone is asked for
+-- label 200: ((fraction + 1/2 - ratio) / x + 1) first, where ratio is the older of the last two values over the newer; 0 where one value
+-- alone is asked for
 unfoldable pub realSecond : Bool → Float → Float → RealSteps → Float → Float
 realSecond alone x fraction s first =
     let length = magnitudeOf (s .newer) in

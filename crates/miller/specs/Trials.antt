@@ -1,5 +1,5 @@
--- The trials of the start search above its threshold: a forward recurrence, until it is large enough. ZBKNU, 'FORWARD RECURRENCE LOOP', labels 150 and 160;
--- `determine_miller_starting_k` of src/amos/right_half_plane.rs. Definitions only.
+-- The trials of the start search above its threshold: a forward recurrence, until it is large enough. ZBKNU, 'FORWARD RECURRENCE LOOP',
+-- labels 150 and 160; `determine_miller_starting_k` of src/amos/right_half_plane.rs. Definitions only.
 use Prim.Native.Nat.{ℕ, zero, suc, _+_, _*_}
 use mathlib.Core.Bool.{Bool, cond}
 use lib.IntN.{pos}
@@ -17,7 +17,8 @@ use Rattle.miller.specs.declared.search.Start.the-variants.{At, Unmet}
 abbrev pub whole : ℕ → Float
 whole i = ofInt binary64 (pos i)
 
--- The trial i, P2 of the loop to label 150: p(i+1) = b p(i) - a p(i-1) with a = ((i - 1/2)² - square) / (i (i + 1)) and b = (2 |z| + 2 i) / (i + 1).
+-- The trial i, P2 of the loop to label 150: p(i+1) = b p(i) - a p(i-1) with a = ((i - 1/2)² - square) / (i (i + 1)) and b = (2 |z| + 2 i) /
+-- (i + 1).
 -- It is DLMF 13.3.7 for U(ν + 1/2 + i, 2ν + 1, 2|z|), each value scaled.
 unfoldable pub nextTrial : Float → Float → ℕ → Trial → Trial
 nextTrial modulus square i t =

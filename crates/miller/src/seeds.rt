@@ -1,5 +1,6 @@
-// The two seeds K(fraction) and K(fraction + 1) from Miller's backward steps, times a coefficient: the last value over the sum, and the ratio of the last two.
-// From src/amos/right_half_plane.rs, compute_large_z_miller_seeds. Promised for every argument: specs/Seeds.antt; refusal 6 exactly where the search finds no start.
+// The two seeds K(fraction) and K(fraction + 1) from Miller's backward steps, times a coefficient: the last value over the sum, and the
+// ratio of the last two. From src/amos/right_half_plane.rs, compute_large_z_miller_seeds. Promised for every argument: specs/Seeds.antt;
+// refusal 6 exactly where the search finds no start.
 ghost use mathlib.Core.Path.{_≡_};
 ghost use Rattle.miller.specs.Seeds.{realSecond, realSeeds, complexSeeds, seedsFrom, seedsAt};
 ghost use Rattle.miller.specs.shapes.Ratio.{ratioUnless, productUnless};

@@ -16,7 +16,7 @@ use borrow.Author.Tests.{lt-ltb, le-ltb}
 use Rattle.laws.proofs.Value.{value-same}
 use Rattle.laws.proofs.Bits.{binade-down}
 use Rattle.laws.proofs.Relative.{Rat, nonnegative-of-value, positive-of-num, rat-mul, rat-trans, rat-weaken, sub-round}
-use Rattle.roots.specs.Tables.{constants, slopes, bends}
+use Rattle.roots_tables.specs.Tables.{constants, slopes, bends}
 use Rattle.roots.specs.Seed.{argument, leftEnd, quadratic, seedOf}
 use Rattle.roots.specs.Sqrt.{scaled}
 use Rattle.roots.proofs.WholeRoot.{which}

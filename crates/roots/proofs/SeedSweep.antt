@@ -14,7 +14,7 @@ use lib.Ieee.Positive.{num, den, positive, den-pos, own-value}
 use lib.Ieee.Exact.{HasValue}
 use lib.ListN.{length, getD}
 use Rattle.laws.proofs.Value.{value-same}
-use Rattle.roots.specs.Tables.{constants, slopes, bends}
+use Rattle.roots_tables.specs.Tables.{constants, slopes, bends}
 use Rattle.roots.proofs.WholeRoot.{which}
 
 -- ---- the accuracy, U / D and V / D, and the scale of the numbers: Z / 2 ^ 162 is the quadratic, F / 2 ^ 52 the argument

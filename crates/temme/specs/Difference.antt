@@ -1,6 +1,6 @@
--- Temme's difference series for (1/Γ(1-ν) - 1/Γ(1+ν)) / 2ν: eight coefficients, each times a power of w = ν², summed up to the first term below 2^-52
--- in magnitude. ZBKNU, 'SERIES FOR F0', labels 20 and 30; DLMF 5.7.1. `compute_small_z_power_series` of src/amos/right_half_plane.rs, which tests
--- the first term too. Definitions only.
+-- Temme's difference series for (1/Γ(1-ν) - 1/Γ(1+ν)) / 2ν: eight coefficients, each times a power of w = ν², summed up to the first term
+-- below 2^-52 in magnitude. ZBKNU, 'SERIES FOR F0', labels 20 and 30; DLMF 5.7.1. `compute_small_z_power_series` of
+-- src/amos/right_half_plane.rs, which tests the first term too. Definitions only.
 use mathlib.Core.Path.{_≡_}
 use mathlib.Core.Bool.{true, false, cond}
 use mathlib.Core.List.{List, [], _∷_}
@@ -14,8 +14,8 @@ use Rattle.machine.specs.Small.{nothing, one}
 use Rattle.complex.specs.Lost.{magnitudeOf}
 use Rattle.temme.specs.declared.difference.Partial.{Partial}
 
--- ZBKNU's CC(1) to CC(8), the coefficients c(2), c(4) .. c(16) of 1/Γ in DLMF 5.7.1: 0.5772156649015329, -0.04200263503409524, -0.04219773455554433,
--- 0.0072189432466631, -0.00021524167411495098, -2.013485478078824e-5, 1.133027231981696e-6, 6.116095104481416e-9
+-- ZBKNU's CC(1) to CC(8), the coefficients c(2), c(4) .. c(16) of 1/Γ in DLMF 5.7.1: 0.5772156649015329, -0.04200263503409524,
+-- -0.04219773455554433, 0.0072189432466631, -0.00021524167411495098, -2.013485478078824e-5, 1.133027231981696e-6, 6.116095104481416e-9
 unfoldable pub differenceCoefficients : List Float
 differenceCoefficients =
     ofBits binary64 0x3FE2788CFC6FB619

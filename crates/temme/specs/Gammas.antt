@@ -1,5 +1,5 @@
--- The reciprocal gammas of 1 + ν and 1 - ν, their mean and their difference quotient; w is ν². ZBKNU, labels 10 to 50: FC, T2, T1, G1 and G2;
--- `one_over_sinc` and `compute_small_z_power_series` of src/amos/right_half_plane.rs. Definitions only.
+-- The reciprocal gammas of 1 + ν and 1 - ν, their mean and their difference quotient; w is ν². ZBKNU, labels 10 to 50: FC, T2, T1, G1 and
+-- G2; `one_over_sinc` and `compute_small_z_power_series` of src/amos/right_half_plane.rs. Definitions only.
 use mathlib.Core.Bool.{cond}
 use lib.Ieee.{Float, binary64, ofBits, neg, le, eq}
 use Rattle.laws.specs.Operators.{_⊕_, _⊖_, _⊗_, _⊘_}

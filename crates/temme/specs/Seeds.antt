@@ -1,5 +1,5 @@
--- Temme's seeds for |z| to 2: l is ln(2/z), m the modulus of z, v the order's fraction and w its square. ZBKNU, 'SERIES FOR CABS(Z).LE.R1', to label 100;
--- `compute_small_z_power_series` of src/amos/right_half_plane.rs. Definitions only.
+-- Temme's seeds for |z| to 2: l is ln(2/z), m the modulus of z, v the order's fraction and w its square. ZBKNU, 'SERIES FOR CABS(Z).LE.R1',
+-- to label 100; `compute_small_z_power_series` of src/amos/right_half_plane.rs. Definitions only.
 use mathlib.Core.Bool.{cond}
 use lib.Ieee.{Float, le, eq}
 use Rattle.laws.specs.Operators.{_⊗_}

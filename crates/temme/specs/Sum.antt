@@ -1,5 +1,5 @@
--- Temme's sum (1975) for K(ν) and (z/2) K(ν+1), from K(ν) = π/2 (I(-ν) - I(ν)) / sin νπ, DLMF 10.27.4, and I's series 10.25.2, with what cancels
--- taken out: ZBKNU, labels 60 and 90; `compute_small_z_power_series` of src/amos/right_half_plane.rs. Definitions only.
+-- Temme's sum (1975) for K(ν) and (z/2) K(ν+1), from K(ν) = π/2 (I(-ν) - I(ν)) / sin νπ, DLMF 10.27.4, and I's series 10.25.2, with what
+-- cancels taken out: ZBKNU, labels 60 and 90; `compute_small_z_power_series` of src/amos/right_half_plane.rs. Definitions only.
 use mathlib.Core.Path.{_≡_}
 use mathlib.Core.Bool.{Bool, true}
 use Prim.Native.Nat.{_+_, _≤_}

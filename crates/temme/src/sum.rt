@@ -1,6 +1,6 @@
-// Temme's sum: two series in z²/4 that share their terms, K(ν) and (z/2) K(ν+1). From src/amos/right_half_plane.rs, compute_small_z_power_series (ZBKNU).
-// Promised: specs/Sum.antt, each operation in the order of the Rust text; the step that adds a term counts it.
-// For |z| to 2 the sum leaves by its own test within 18 terms (proofs/TemmeBound.antt), so that the bound of 999 never decides.
+// Temme's sum: two series in z²/4 that share their terms, K(ν) and (z/2) K(ν+1). From src/amos/right_half_plane.rs,
+// compute_small_z_power_series (ZBKNU). Promised: specs/Sum.antt, each operation in the order of the Rust text; the step that adds a term
+// counts it. For |z| to 2 the sum leaves by its own test within 18 terms (proofs/TemmeBound.antt), so that the bound of 999 never decides.
 ghost use mathlib.Core.Path.{_≡_};
 ghost use Prim.Native.Nat.{_<_};
 ghost use Rattle.temme.specs.Sum.{nextTerms, sumOf};

@@ -1,5 +1,5 @@
--- How it is computed, not what: what the angle adds to a start is worked out before the trials, whose index it is then added to. On the real path
--- nothing is added. The start itself is rawStart of specs/Search.antt. Definitions only.
+-- How it is computed, not what: what the angle adds to a start is worked out before the trials, whose index it is then added to. On the
+-- real path nothing is added. The start itself is rawStart of specs/Search.antt. Definitions only.
 use mathlib.Core.Bool.{cond}
 use lib.Ieee.{Float}
 use Rattle.machine.specs.Small.{nothing}

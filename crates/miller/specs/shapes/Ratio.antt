@@ -1,5 +1,5 @@
--- How it is computed, not what: the ratio of the two seeds is worked out before the first of them, and the second is their product; where one value alone
--- is asked for, neither is worked out. The seeds themselves are those of specs/Seeds.antt. Definitions only.
+-- How it is computed, not what: the ratio of the two seeds is worked out before the first of them, and the second is their product; where
+-- one value alone is asked for, neither is worked out. The seeds themselves are those of specs/Seeds.antt. Definitions only.
 use mathlib.Core.Bool.{Bool, cond}
 use lib.Ieee.{Float}
 use Rattle.complex.specs.declared.number.Complex.{Complex}

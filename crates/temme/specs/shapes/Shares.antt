@@ -1,4 +1,5 @@
--- How it is computed, not what: the four reciprocals that the term k of Temme's sum takes, worked out together, since at the fraction 0 they are two.
+-- How it is computed, not what: the four reciprocals that the term k of Temme's sum takes, worked out together, since at the fraction 0
+-- they are two.
 -- The sum itself (specs/Sum.antt) divides where it stands. ZBKNU: RAK, 1/BK and STR behind the labels 60 and 90. Definitions only.
 use Prim.Native.Nat.{ℕ}
 use mathlib.Core.Bool.{Bool, _&&_}

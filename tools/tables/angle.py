@@ -1,5 +1,5 @@
 #!/usr/bin/env python3
-"""angle.py: write the tables of crate angle, src/tables.rt and specs/Tables.antt, from one computation at 300 bits, and the proof that
+"""angle.py: write the tables of crate angle_tables, src/tables.rt and specs/Tables.antt, from one computation at 300 bits, and the proof that
 they agree. `rt fmt` lays the files out.
 
 angle.py          write the files
@@ -16,7 +16,8 @@ from f64 import bits, nearest, of_bits
 
 mp.prec = 300
 STEPS = 64
-CRATE = Path(__file__).resolve().parents[2] / "crates" / "angle"
+CRATES = Path(__file__).resolve().parents[2] / "crates"
+TABLES = CRATES / "angle_tables"
 # A3, A5, A7 of atan(v) = v + v^3 (A3 + z (A5 + z A7)), z = v^2, fitted for |v| <= 1/128
 COEFFICIENTS = (0xBFD5555555555547, 0x3FC999999918148B, 0xBFC248CEAD963C68)
 
@@ -57,7 +58,7 @@ SOURCE = f"""// {ABOUT}
 // A match and not an array: the compiler makes one load of it, where an indexed constant is copied to the stack at each call.
 ghost use mathlib.Core.Path.{{_≡_}};
 ghost use Prim.Native.Nat.{{_<_}};
-ghost use Rattle.angle.specs.Tables.{{tabledOf}};
+ghost use Rattle.angle_tables.specs.Tables.{{tabledOf}};
 
 // An angle as an unevaluated sum.
 pub struct Sum {{
@@ -79,7 +80,7 @@ use mathlib.Core.List.{{List, [], _∷_}}
 use Prim.Native.Nat.{{ℕ}}
 use lib.ListN.{{getD}}
 use lib.Ieee.{{Float, nan, binary64, ofBits, neg}}
-use Rattle.angle.specs.declared.tables.Sum.{{Sum}}
+use Rattle.angle_tables.specs.declared.tables.Sum.{{Sum}}
 
 {antt("atanHigh", "the nearest f64", HIGH)}
 {antt("atanLow", "what is left", LOW)}
@@ -94,11 +95,11 @@ NAMES = ["returns" if j == 0 else f"returns-{j + 1}" for j in range(STEPS + 1)]
 ANSWERS = [answer(NAMES[j], f"rw (c .match .keys{j + 1})") for j in range(STEPS)]
 ANSWERS.append(answer(NAMES[STEPS], f"rw (last {STEPS} (c .before .args .j) (c .before .pre) (c .match .rest))"))
 
-PROOF = f"""-- `angle::tables::tabled` meets its contract: an arm for each entry. Written by tools/tables/angle.py. Assumes nothing.
+PROOF = f"""-- `angle_tables::tables::tabled` meets its contract: an arm for each entry. Written by tools/tables/angle.py. Assumes nothing.
 use Rattle.laws.proofs.Arms.{{last}}
-use Rattle.angle.specs.Tables.{{tabledOf, atanHigh, atanLow}}
-use Rattle.angle.proofs.tables.tabled.Statement.{{statement}}
-use Rattle.angle.proofs.tables.tabled.Tie as tie
+use Rattle.angle_tables.specs.Tables.{{tabledOf, atanHigh, atanLow}}
+use Rattle.angle_tables.proofs.tables.tabled.Statement.{{statement}}
+use Rattle.angle_tables.proofs.tables.tabled.Tie as tie
 
 {chr(10).join(ANSWERS)}
 pub tabled-spec : {{M : Type 1}} → statement M
@@ -109,9 +110,9 @@ tabled-spec =
 """
 
 FILES = {
-    CRATE / "src" / "tables.rt": SOURCE,
-    CRATE / "specs" / "Tables.antt": SPEC,
-    CRATE / "proofs" / "tables" / "tabled" / "Proof.antt": PROOF,
+    TABLES / "src" / "tables.rt": SOURCE,
+    TABLES / "specs" / "Tables.antt": SPEC,
+    TABLES / "proofs" / "tables" / "tabled" / "Proof.antt": PROOF,
 }
 
 
@@ -132,8 +133,8 @@ def check():
         if re.sub(r"\s+", " ", path.read_text()) != re.sub(r"\s+", " ", text):
             print("differs:", path)
             wrong = 1
-    spec = (CRATE / "specs" / "Angle.antt").read_text()
-    code = (CRATE / "src" / "angle.rt").read_text()
+    spec = (CRATES / "angle" / "specs" / "Angle.antt").read_text()
+    code = (CRATES / "angle" / "src" / "angle.rt").read_text()
     for name, value in (("pi", mp.pi), ("half pi", mp.pi / 2)):
         for x in split(value):
             if f"0x{bits(x):016X}" not in spec or repr(x) not in code:

@@ -1,5 +1,5 @@
 #!/usr/bin/env python3
-"""logarithm.py [--check]: the tables of crate logarithm, from mpmath at 300 bits.
+"""logarithm.py [--check]: the tables of crate logarithm_tables, from mpmath at 300 bits.
 
 Row j of 128 stands for the middle 1 + j/128 of a mantissa's piece: the reciprocal c, the i/256 nearest to 1/(1 + j/128); the excess
 (1 + j/128)*c - 1, which is exact; and -ln c as high + low, high being the nearest multiple of 2^-42 and low the f64 nearest to the rest.
@@ -11,7 +11,7 @@ from f64 import bits, nearest, of_bits
 
 mp.prec = 300
 HERE = os.path.dirname(os.path.abspath(__file__))
-CRATE = os.path.join(HERE, '..', '..', 'crates', 'logarithm')
+CRATE = os.path.join(HERE, '..', '..', 'crates', 'logarithm_tables')
 STEPS = 128
 
 
@@ -39,8 +39,9 @@ COLUMNS = [
 
 def source(tables):
     out = ['// The table of ln: row j is for mantissas near 1 + j/128. It is a match, which the compiler turns into constants in memory: an array',
-           '// would be stored anew in each call. Written and confirmed by tools/tables/logarithm.py, with specs/Tables.antt and the proof that they agree.',
-           'ghost use mathlib.Core.Path.{_≡_};', 'ghost use Prim.Native.Nat.{_<_};', 'ghost use Rattle.logarithm.specs.Rows.{rowOf};', '', 'pub struct Row {']
+           '// would be stored anew in each call. Written and confirmed by tools/tables/logarithm.py, with specs/Tables.antt and the proof that they',
+           '// agree.',
+           'ghost use mathlib.Core.Path.{_≡_};', 'ghost use Prim.Native.Nat.{_<_};', 'ghost use Rattle.logarithm_tables.specs.Tables.{rowOf};', '', 'pub struct Row {']
     for field, _, what in COLUMNS:
         out += ['    // ' + what, '    pub %s: f64,' % field]
     out += ['}', '', 'pub fn row_of(j: u64) -> Row', '    requires { ⌜ j < %d ⌝ }' % STEPS, '    ensures { λ r. ⌜ r ≡ rowOf j ⌝ }', '{', '    match j {']
@@ -53,21 +54,24 @@ def source(tables):
 
 def definitions(tables):
     out = ['-- The tables of ln: row j is for mantissas near 1 + j/128. Written and confirmed by tools/tables/logarithm.py. Definitions only.',
-           'use mathlib.Core.List.{List, [], _∷_}', 'use lib.Ieee.{Float, binary64, ofBits}', '']
+           'use mathlib.Core.List.{List, [], _∷_}', 'use Prim.Native.Nat.{ℕ}', 'use lib.ListN.{getD}', 'use lib.Ieee.{Float, nan, binary64, ofBits}',
+           'use Rattle.logarithm_tables.specs.declared.tables.Row.{Row}', '']
     for (_, name, what), table in zip(COLUMNS, tables):
         out += ['-- ' + what, 'unfoldable pub %s : List Float' % name, '%s =' % name]
         out += ['    ofBits binary64 0x%016X ∷  -- %r' % (bits(x), x) for x in table]
         out += ['    []', '']
-    return '\n'.join(out).rstrip() + '\n'
+    out += ['-- a row as one value', 'unfoldable pub rowOf : ℕ → Row', 'rowOf j = record {']
+    out += ['  %s = getD %s j nan;' % (field, name) for field, name, _ in COLUMNS]
+    return '\n'.join(out + ['}']) + '\n'
 
 
 def proof(tables):
     columns = ' '.join(name for _, name, _ in COLUMNS)
     needs = ['returns'] + ['returns-%d' % k for k in range(2, STEPS + 1)]
-    out = ['-- `logarithm::tables::row_of` meets its contract, at each of its %d rows. Written by tools/tables/logarithm.py. Assumes nothing.' % STEPS,
-           'use lib.Ieee.{ofBits, neg}', 'use Rattle.logarithm.specs.Tables.{%s}' % columns.replace(' ', ', '),
-           'use Rattle.logarithm.specs.Rows.{rowOf}', 'use Rattle.laws.proofs.Arms.{last}',
-           'use Rattle.logarithm.proofs.tables.row_of.Statement.{statement}', 'use Rattle.logarithm.proofs.tables.row_of.Tie as tie']
+    out = ['-- `logarithm_tables::tables::row_of` meets its contract, at each of its %d rows. Written by tools/tables/logarithm.py. Assumes nothing.' % STEPS,
+           'use lib.Ieee.{ofBits, neg}', 'use Rattle.logarithm_tables.specs.Tables.{%s, rowOf}' % columns.replace(' ', ', '),
+           'use Rattle.laws.proofs.Arms.{last}',
+           'use Rattle.logarithm_tables.proofs.tables.row_of.Statement.{statement}', 'use Rattle.logarithm_tables.proofs.tables.row_of.Tie as tie']
     for k, (need, row) in enumerate(zip(needs, zip(*tables)), 1):
         # the source has a minus sign where the definition has the sign's bit
         signs = 'ofBits neg ' if min(row) < 0 else ''

@@ -1,6 +1,6 @@
 #!/usr/bin/env python3
 """The seed of a square root on [1, 4): 128 pieces, each with the quadratic that meets the root at the three Chebyshev points of the piece.
-roots.py writes crates/roots/src/tables.rt, crates/roots/specs/Tables.antt and the proof that they agree, from one list.
+roots.py writes src/tables.rt and specs/Tables.antt of crate roots_tables and the proof that they agree, from one list.
 roots.py --check writes nothing: it compares the files with the list, each constant with its value at 400 bits, and prints the largest relative error of the seed's square
 and, of drawn arguments, how many of the roots that the f64 steps give are off, and by how many units. It fails above 2, which is proved (crates/roots/proofs/Corrections.antt)."""
 import math
@@ -14,7 +14,7 @@ from mpmath import mp, mpf, cos, lu_solve, matrix, pi, sqrt
 mp.prec = 400
 PIECES = 128
 HERE = os.path.dirname(os.path.abspath(__file__))
-CRATE = os.path.join(HERE, '..', '..', 'crates', 'roots')
+CRATE = os.path.join(HERE, '..', '..', 'crates', 'roots_tables')
 NAMES = (
     ('constant', 'constants', 'the constant terms'),
     ('slope', 'slopes', 'the factors of the distance from the left end'),
@@ -65,20 +65,20 @@ def tables():
 
 def source(columns):
     lines = [
-        '// The seed\'s 128 quadratics. They are a match, which the compiler turns into constants in memory: an array would be stored anew in each call.',
-        '// Written and confirmed by tools/tables/roots.py, with specs/Tables.antt and the proof that they agree.',
+        '// The seed\'s 128 quadratics. They are a match, which the compiler turns into constants in memory: an array would be stored anew in each',
+        '// call. Written and confirmed by tools/tables/roots.py, with specs/Tables.antt and the proof that they agree.',
         'ghost use mathlib.Core.Path.{_≡_};',
         'ghost use Prim.Native.Nat.{_<_};',
         'ghost use lib.ListN.{getD};',
         'ghost use lib.Ieee.{nan};',
-        'ghost use Rattle.roots.specs.Tables.{constants, slopes, bends};',
+        'ghost use Rattle.roots_tables.specs.Tables.{constants, slopes, bends};',
         '',
         '// constant + slope * d - bend * d * d, with d the distance from the left end of the piece',
         'pub struct Quadratic {',
     ]
     lines += [f'    pub {field}: f64,' for field, _, _ in NAMES]
     lines += ['}', '', 'pub fn quadratic_of(i: u64) -> Quadratic', f'    requires {{ ⌜ i < {PIECES} ⌝ }}']
-    lines += ['    ensures { λ r. ⌜ ' + ' × '.join(f'(r .{field} ≡ getD {name} i nan)' for field, name, _ in NAMES) + ' ⌝ }', '{', '    match i {']
+    lines += ['    ensures { λ r. ⌜ ' + '\n        × '.join(f'(r .{field} ≡ getD {name} i nan)' for field, name, _ in NAMES) + ' ⌝ }', '{', '    match i {']
     for i, row in enumerate(zip(*columns)):
         lines.append(f'        {"_" if i == PIECES - 1 else i} => Quadratic {{')
         lines += [f'            {field}: {value!r},' for (field, _, _), value in zip(NAMES, row)]
@@ -99,12 +99,12 @@ def proof():
     names = [name for _, name, _ in NAMES]
     needs = ['returns'] + [f'returns-{k}' for k in range(2, PIECES + 1)]
     lines = [
-        f'-- `roots::tables::quadratic_of` meets its contract, at each of its {PIECES} pieces. Written by tools/tables/roots.py. Assumes nothing.',
+        f'-- `roots_tables::tables::quadratic_of` meets its contract, at each of its {PIECES} pieces. Written by tools/tables/roots.py. Assumes nothing.',
         'use mathlib.Core.Path.{refl}',
-        f'use Rattle.roots.specs.Tables.{{{", ".join(names)}}}',
+        f'use Rattle.roots_tables.specs.Tables.{{{", ".join(names)}}}',
         'use Rattle.laws.proofs.Arms.{last}',
-        'use Rattle.roots.proofs.tables.quadratic_of.Statement.{statement}',
-        'use Rattle.roots.proofs.tables.quadratic_of.Tie as tie',
+        'use Rattle.roots_tables.proofs.tables.quadratic_of.Statement.{statement}',
+        'use Rattle.roots_tables.proofs.tables.quadratic_of.Tie as tie',
     ]
     for k, need in enumerate(needs, 1):
         fact = f'c .match .keys{k}' if k < PIECES else f'last {PIECES - 1} (c .before .args .i) (c .before .pre) (c .match .rest)'

@@ -15,9 +15,9 @@ use Rattle.laws.proofs.Sign.{neg-neg, neg-sign, neg-nan, bare-neg}
 use Rattle.laws.proofs.Mag.{Mag, magTest, mag-literal, mag-neg, mag-add, mag-sub}
 use Rattle.angle.proofs.Arc.{ArcSize, arc-size}
 use Rattle.angle.proofs.Sides.{magnitude-is, negative-is, magnitude-fits, magnitude-above, sides-ordered, scaled-ranged}
-use Rattle.angle.specs.Angle.{zero, one, infinity, grid, negative, magnitude, leading, largerOf, smallerOf, sidesOf, times, flat, even, loweredOf, raisedOf, scaledOf, stepOf, tangentOf, seriesOf, joinedOf, tabledArcOf, arcOf, awayOf, backOf, quarter, half, turnedOf, upperOf, angleOf}
-use Rattle.angle.specs.Tables.{atanHigh, atanLow, tabledOf}
-use Rattle.angle.specs.declared.tables.Sum.{Sum}
+use Rattle.angle.specs.Angle.{infinity, grid, negative, magnitude, leading, largerOf, smallerOf, sidesOf, times, flat, even, loweredOf, raisedOf, scaledOf, stepOf, tangentOf, seriesOf, joinedOf, tabledArcOf, arcOf, awayOf, backOf, quarterTurn, halfTurn, turnedOf, upperOf, angleOf}
+use Rattle.angle_tables.specs.Tables.{atanHigh, atanLow, tabledOf}
+use Rattle.angle_tables.specs.declared.tables.Sum.{Sum}
 
 -- ---- finite
 away-size : (c a : Sum) → Mag binary64 1076 (c .high) → Mag binary64 1076 (c .low) → ArcSize a → Mag binary64 1102 (awayOf c a)
@@ -35,9 +35,9 @@ back-size a m = record { high = mag-neg (m .high); low = mag-neg (m .low) }
 
 turned-size : (a : Sum) (steep left : Bool) → ArcSize a → Mag binary64 1102 (turnedOf a steep left)
 unfolding turnedOf
-turned-size a true true m = away-size quarter a (unfold quarter ofBits magTest in mag-literal tt) (unfold quarter ofBits magTest in mag-literal tt) m
-turned-size a true false m = away-size quarter (backOf a) (unfold quarter ofBits magTest in mag-literal tt) (unfold quarter ofBits magTest in mag-literal tt) (back-size a m)
-turned-size a false true m = away-size half (backOf a) (unfold half ofBits magTest in mag-literal tt) (unfold half ofBits magTest in mag-literal tt) (back-size a m)
+turned-size a true true m = away-size quarterTurn a (unfold quarterTurn ofBits magTest in mag-literal tt) (unfold quarterTurn ofBits magTest in mag-literal tt) m
+turned-size a true false m = away-size quarterTurn (backOf a) (unfold quarterTurn ofBits magTest in mag-literal tt) (unfold quarterTurn ofBits magTest in mag-literal tt) (back-size a m)
+turned-size a false true m = away-size halfTurn (backOf a) (unfold halfTurn ofBits magTest in mag-literal tt) (unfold halfTurn ofBits magTest in mag-literal tt) (back-size a m)
 turned-size a false false m = mag-add (m .high) (m .low) (lit< tt) (lit< tt) (lit≤ tt)
 
 signed : Bool → Float → Float
@@ -98,17 +98,17 @@ at y x = toBits binary64 (angleOf (ofBits binary64 y) (ofBits binary64 x))
 -- 0, π/2, π, π/4, 3π/4 at (y, x) = (0, 1), (1, 0), (0, -1), (1, 1), (1, -1)
 pub angle-values : (at 0 0x3FF0000000000000 ∷ at 0x3FF0000000000000 0 ∷ at 0 0xBFF0000000000000 ∷ at 0x3FF0000000000000 0x3FF0000000000000 ∷ at 0x3FF0000000000000 0xBFF0000000000000 ∷ [])
     ≡ (0 ∷ 0x3FF921FB54442D18 ∷ 0x400921FB54442D18 ∷ 0x3FE921FB54442D18 ∷ 0x4002D97C7F3321D2 ∷ [])
-unfolding at angleOf upperOf turnedOf awayOf backOf quarter half arcOf tabledArcOf joinedOf seriesOf tangentOf stepOf grid leading scaledOf loweredOf raisedOf times flat even infinity sidesOf largerOf smallerOf magnitude negative zero one tabledOf atanHigh atanLow neg ofBits toBits isNan lt le eq add sub mul div
+unfolding at angleOf upperOf turnedOf awayOf backOf quarterTurn halfTurn arcOf tabledArcOf joinedOf seriesOf tangentOf stepOf grid leading scaledOf loweredOf raisedOf times flat even infinity sidesOf largerOf smallerOf magnitude negative tabledOf atanHigh atanLow neg ofBits toBits isNan lt le eq add sub mul div
 angle-values = refl
 
 -- ±0 beside +0 is itself, and beside -0 it is ±π
 pub angle-zeros : (at 0 0 ∷ at 0x8000000000000000 0 ∷ at 0 0x8000000000000000 ∷ at 0x8000000000000000 0x8000000000000000 ∷ [])
     ≡ (0 ∷ 0x8000000000000000 ∷ 0x400921FB54442D18 ∷ 0xC00921FB54442D18 ∷ [])
-unfolding at angleOf upperOf turnedOf awayOf backOf quarter half arcOf tabledArcOf joinedOf seriesOf tangentOf stepOf grid leading scaledOf loweredOf raisedOf times flat even infinity sidesOf largerOf smallerOf magnitude negative zero one tabledOf atanHigh atanLow neg ofBits toBits isNan lt le eq add sub mul div
+unfolding at angleOf upperOf turnedOf awayOf backOf quarterTurn halfTurn arcOf tabledArcOf joinedOf seriesOf tangentOf stepOf grid leading scaledOf loweredOf raisedOf times flat even infinity sidesOf largerOf smallerOf magnitude negative tabledOf atanHigh atanLow neg ofBits toBits isNan lt le eq add sub mul div
 angle-zeros = refl
 
 -- an infinity beside 1, and two infinities: 0, π, π/2, π/4, -3π/4; a not-a-number in either place
 pub angle-infinities : (at 0x3FF0000000000000 0x7FF0000000000000 ∷ at 0x3FF0000000000000 0xFFF0000000000000 ∷ at 0x7FF0000000000000 0x3FF0000000000000 ∷ at 0x7FF0000000000000 0x7FF0000000000000 ∷ at 0xFFF0000000000000 0xFFF0000000000000 ∷ at 0x7FF8000000000000 0 ∷ at 0 0x7FF8000000000000 ∷ [])
     ≡ (0 ∷ 0x400921FB54442D18 ∷ 0x3FF921FB54442D18 ∷ 0x3FE921FB54442D18 ∷ 0xC002D97C7F3321D2 ∷ 0x7FF8000000000000 ∷ 0x7FF8000000000000 ∷ [])
-unfolding at angleOf upperOf turnedOf awayOf backOf quarter half arcOf tabledArcOf joinedOf seriesOf tangentOf stepOf grid leading scaledOf loweredOf raisedOf times flat even infinity sidesOf largerOf smallerOf magnitude negative zero one tabledOf atanHigh atanLow neg ofBits toBits isNan lt le eq add sub mul div
+unfolding at angleOf upperOf turnedOf awayOf backOf quarterTurn halfTurn arcOf tabledArcOf joinedOf seriesOf tangentOf stepOf grid leading scaledOf loweredOf raisedOf times flat even infinity sidesOf largerOf smallerOf magnitude negative tabledOf atanHigh atanLow neg ofBits toBits isNan lt le eq add sub mul div
 angle-infinities = refl

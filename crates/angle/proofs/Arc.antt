@@ -12,16 +12,17 @@ use Rattle.laws.proofs.Order.{nought, le-trans-float, finite-between}
 use Rattle.laws.proofs.Interval.{Between}
 use Rattle.laws.proofs.Bound.{every, every-at}
 use Rattle.laws.proofs.Mag.{Mag, AtLeast, magTest, atLeastTest, mag-literal, at-least-literal, mag-weaken, at-least-of-le, mag-mul, mag-div, mag-add, mag-sub}
+use Rattle.machine.specs.Small.{nothing, one}
 use Rattle.angle.proofs.Ends.{product-at-least-zero}
 use Rattle.angle.proofs.Magnitude.{mag-below, at-least-add, mag-cut, binade}
 use Rattle.angle.proofs.Sides.{from-zero}
 use Rattle.angle.proofs.Step.{long-finite, long-positive, short-above, quotient-between, index-below, value-between}
-use Rattle.angle.specs.Angle.{zero, one, leading, stepOf, tangentOf, seriesOf, joinedOf, tabledArcOf, arcOf}
-use Rattle.angle.specs.Tables.{atanHigh, atanLow, tabledOf}
+use Rattle.angle.specs.Angle.{leading, stepOf, tangentOf, seriesOf, joinedOf, tabledArcOf, arcOf}
+use Rattle.angle_tables.specs.Tables.{atanHigh, atanLow, tabledOf}
 use Rattle.angle.specs.Range.{lowest, highest, Ranged}
 use Rattle.angle.specs.declared.angle.Triangle.{Triangle}
 use Rattle.angle.specs.declared.angle.Tangent.{Tangent}
-use Rattle.angle.specs.declared.tables.Sum.{Sum}
+use Rattle.angle_tables.specs.declared.tables.Sum.{Sum}
 
 -- ---- up to the tangent's value. h is a's leading digits
 abbrev pub aboveOf : Float → Float → Float → Float
@@ -33,22 +34,22 @@ belowOf a t h = mul binary64 t (sub binary64 a h)
 abbrev pub numeratorOf : Float → Float → Float → Float → Float
 numeratorOf a b t h = sub binary64 (aboveOf b t h) (belowOf a t h)
 
-abbrev pub numeratorLowOf : Float → Float → Float → Float → Float
+abbrev numeratorLowOf : Float → Float → Float → Float → Float
 numeratorLowOf a b t h = sub binary64 (sub binary64 (aboveOf b t h) (numeratorOf a b t h)) (belowOf a t h)
 
 abbrev pub denominatorOf : Float → Float → Float → Float
 denominatorOf a b t = add binary64 a (mul binary64 t b)
 
-abbrev pub denominatorLowOf : Float → Float → Float → Float
+abbrev denominatorLowOf : Float → Float → Float → Float
 denominatorLowOf a b t = add binary64 (sub binary64 a (denominatorOf a b t)) (mul binary64 t b)
 
 abbrev pub inverseOf : Float → Float → Float → Float
 inverseOf a b t = div binary64 one (denominatorOf a b t)
 
-abbrev pub leftOf : Float → Float → Float → Float → Float → Float → Float
+abbrev leftOf : Float → Float → Float → Float → Float → Float → Float
 leftOf a b t h v e = sub binary64 (sub binary64 (numeratorOf a b t h) (mul binary64 v e)) (mul binary64 v (sub binary64 (denominatorOf a b t) e))
 
-abbrev pub restOf : Float → Float → Float → Float → Float → Float → Float
+abbrev restOf : Float → Float → Float → Float → Float → Float → Float
 restOf a b t h v e = add binary64 (leftOf a b t h v e) (sub binary64 (numeratorLowOf a b t h) (mul binary64 v (denominatorLowOf a b t)))
 
 -- what is known of the operands
@@ -66,7 +67,7 @@ pub record Operands (a b t h : Float) : Type 0 where
   pub h-size : Mag binary64 (suc p) h
 
 one-size : Mag binary64 1074 one
-unfolding one ofBits magTest
+unfolding ofBits magTest
 one-size = mag-literal tt
 
 module _ (a b t h : Float) (o : Operands a b t h) where
@@ -132,15 +133,14 @@ module _ (a b t h : Float) (o : Operands a b t h) where
         let r : Mag binary64 (o .p + 8) (sub binary64 (numeratorLowOf a b t h) (mul binary64 v (denominatorLowOf a b t))) = mag-sub numerator-low-size q (omega arith) (omega arith) (omega arith) in
         mag-add left-size r (omega arith) (omega arith) (omega arith)
 
-    pub low-size : Mag binary64 1083 (mul binary64 (restOf a b t h v e) (inverseOf a b t))
+    low-size : Mag binary64 1083 (mul binary64 (restOf a b t h v e) (inverseOf a b t))
     low-size = let k = o .most in let l = o .least in mag-mul rest-size inverse-size (omega arith) (omega arith)
 
 -- ---- of a triangle in range
-pub unit-between : (t : Float) → T (le zero t && le t one) → Between zero one t
-unfolding one
+pub unit-between : (t : Float) → T (le nothing t && le t one) → Between nothing one t
 unit-between t h =
-    let a = and-l (le zero t) (le t one) h in
-    let b = and-r (le zero t) (le t one) h in
+    let a = and-l (le nothing t) (le t one) h in
+    let b = and-r (le nothing t) (le t one) h in
     (finite-between nought t one tt (unfold ofBits in tt) (from-zero t a) b, a, b)
 
 lowest-over : AtLeast binary64 200 lowest
@@ -151,7 +151,7 @@ highest-size : Mag binary64 2074 highest
 unfolding highest ofBits magTest
 highest-size = mag-literal tt
 
-module _ (s : Triangle) (r : Ranged s) (t : Float) (i : Between zero one t) where
+module _ (s : Triangle) (r : Ranged s) (t : Float) (i : Between nothing one t) where
   pub operands : Operands (s .long) (s .short) t (leading (s .long))
   unfolding leading lowest
   operands =
@@ -173,15 +173,15 @@ module _ (s : Triangle) (r : Ranged s) (t : Float) (i : Between zero one t) wher
         h-size = mag-cut (s .long) (r .held) (n .under);
       }
 
-  pub tangent-value-size : Mag binary64 1077 (tangentOf s t .value)
+  tangent-value-size : Mag binary64 1077 (tangentOf s t .value)
   unfolding tangentOf
   tangent-value-size = value-size (s .long) (s .short) t (leading (s .long)) operands
 
-  pub tangent-high-size : Mag binary64 1077 (tangentOf s t .high)
+  tangent-high-size : Mag binary64 1077 (tangentOf s t .high)
   unfolding tangentOf leading
   tangent-high-size = mag-cut (tangentOf s t .value) (mul-fits binary64 _ _) tangent-value-size
 
-  pub tangent-low-size : Mag binary64 1083 (tangentOf s t .low)
+  tangent-low-size : Mag binary64 1083 (tangentOf s t .low)
   unfolding tangentOf
   tangent-low-size =
       low-size (s .long) (s .short) t (leading (s .long)) operands (tangentOf s t .high) (leading (denominatorOf (s .long) (s .short) t)) tangent-high-size
@@ -244,15 +244,15 @@ joined-size base g p q v h l =
       low = mag-add {m = 1098} carried (mag-add lows (series-size (g .value) v) (lit< tt) (lit< tt) (lit≤ tt)) (lit< tt) (lit< tt) (lit≤ tt);
     }
 
-zero-size : Mag binary64 1074 zero
-unfolding zero ofBits magTest
+zero-size : Mag binary64 1074 nothing
+unfolding ofBits magTest
 zero-size = mag-literal tt
 
 pub arc-size : (s : Triangle) → Ranged s → ArcSize (arcOf s)
 unfolding arcOf tabledArcOf tabledOf
 arc-size s r =
     either (λ (a : Sum). ArcSize a) (le (s .short) (mul binary64 (s .long) (ofBits binary64 0x3E30000000000000)))
-    (record { high = div binary64 (s .short) (s .long); low = zero })
+    (record { high = div binary64 (s .short) (s .long); low = nothing })
     (tabledArcOf s)
     (record { high = mag-weaken (mag-below (div binary64 (s .short) (s .long)) one-size (from-zero (div binary64 (s .short) (s .long)) (quotient-between s r .1)) (quotient-between s r .2)) (lit≤ tt); low = mag-weaken zero-size (lit≤ tt) })
     (joined-size (tabledOf (stepOf s .index)) (tangentOf s (stepOf s .value))

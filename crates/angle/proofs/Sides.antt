@@ -12,24 +12,25 @@ use Rattle.laws.proofs.Value.{sign, bare}
 use Rattle.laws.proofs.Order.{nought, lt→le, le-ordered, le-trans-float, finite-between, mul-mono-pos}
 use Rattle.laws.proofs.Bits.{infBits, ofBits-bare, toBits-sign-bit, toBits-bare, toBits-at-most, bare-fits, bare-no-nan, bare-sign}
 use Rattle.laws.proofs.Interval.{Interval, iv, Expr, var, lit, product, eval, passes, Between, bounded, in-literals}
+use Rattle.machine.specs.Small.{nothing}
 use Rattle.angle.proofs.Ends.{bare-above, not-below, finite-of, positive-of, positive-above, at-most-largest, at-least-smallest}
-use Rattle.angle.specs.Angle.{zero, one, infinity, negative, magnitude, largerOf, smallerOf, sidesOf, times, flat, even, loweredOf, raisedOf, scaledOf}
+use Rattle.angle.specs.Angle.{infinity, negative, magnitude, largerOf, smallerOf, sidesOf, times, flat, even, loweredOf, raisedOf, scaledOf}
 use Rattle.angle.specs.Range.{lowest, highest, Ordered, Ranged}
 use Rattle.angle.specs.declared.angle.Triangle.{Triangle}
 
 -- ---- the constants as the laws have them
-pub zero-is : zero ≡ nought
-unfolding zero ofBits
+zero-is : nothing ≡ nought
+unfolding ofBits
 zero-is = refl
 
 infinity-is : infinity ≡ inf false
 unfolding infinity ofBits
 infinity-is = refl
 
-pub from-zero : (x : Float) → T (le zero x) → T (le nought x)
+pub from-zero : (x : Float) → T (le nothing x) → T (le nought x)
 from-zero x h = subst (λ (z : Float). T (le z x)) zero-is h
 
-pub to-zero : (x : Float) → T (le nought x) → T (le zero x)
+pub to-zero : (x : Float) → T (le nought x) → T (le nothing x)
 to-zero x h = subst (λ (z : Float). T (le z x)) (sym zero-is) h
 
 -- ---- a magnitude
@@ -45,7 +46,7 @@ pub magnitude-fits : (x : Float) → T (fits binary64 (magnitude x))
 unfolding magnitude
 magnitude-fits x = ofBits-fits binary64 _
 
-pub magnitude-above : (x : Float) → T (fits binary64 x) → T (not (isNan x)) → T (le zero (magnitude x))
+pub magnitude-above : (x : Float) → T (fits binary64 x) → T (not (isNan x)) → T (le nothing (magnitude x))
 magnitude-above x F n = to-zero (magnitude x) (subst (λ (z : Float). T (le nought z)) (sym (magnitude-is x F)) (bare-above x n))
 
 -- the pattern without the sign's bit is no not-a-number's
@@ -60,15 +61,15 @@ either : (P : Triangle → Type 0) (b : Bool) (x y : Triangle) → (b ≡ true �
 either P true x y p q = p refl
 either P false x y p q = q refl
 
-pub sides-ordered : (y x : Float) → T (fits binary64 y) → T (fits binary64 x) → T (le zero y) → T (le zero x) → Ordered (sidesOf y x)
+pub sides-ordered : (y x : Float) → T (fits binary64 y) → T (fits binary64 x) → T (le nothing y) → T (le nothing x) → Ordered (sidesOf y x)
 unfolding sidesOf largerOf smallerOf
 sides-ordered y x F G p q = go (lt x y) (lt y x) refl refl
   where
     go : (a b : Bool) → lt x y ≡ a → lt y x ≡ b → Ordered (record { long = cond a y x; short = cond b y x })
-    go true true h k = record { held = F; start = p; order = le-ordered zero y p }
+    go true true h k = record { held = F; start = p; order = le-ordered nothing y p }
     go true false h k = record { held = F; start = q; order = lt→le x y (is-true (lt x y) h) }
     go false true h k = record { held = G; start = p; order = lt→le y x (is-true (lt y x) k) }
-    go false false h k = record { held = G; start = q; order = le-ordered zero x q }
+    go false false h k = record { held = G; start = q; order = le-ordered nothing x q }
 
 -- ---- scaled
 short-finite : (s : Triangle) → Ordered s → T (finite (s .long)) → T (finite (s .short))
@@ -87,11 +88,11 @@ times-ranged c s o f C p z b =
     }
 
 flat-ranged : Ranged flat
-unfolding flat one zero lowest highest ofBits fits le
+unfolding flat lowest highest ofBits fits le
 flat-ranged = record { held = tt; start = tt; order = tt; low = tt; high = tt }
 
 even-ranged : Ranged even
-unfolding even one zero lowest highest ofBits fits le
+unfolding even lowest highest ofBits fits le
 even-ranged = record { held = tt; start = tt; order = tt; low = tt; high = tt }
 
 -- 2^-100 times what lies between 2^1000 and the largest
@@ -145,7 +146,7 @@ lowered-ranged s o h =
 raised-ranged : (s : Triangle) → Ordered s → T (lt (s .long) (ofBits binary64 0x0DF0000000000000)) → Ranged (raisedOf s)
 unfolding raisedOf
 raised-ranged s o h =
-    either Ranged (eq (s .long) zero) _ _ (λ i. flat-ranged)
+    either Ranged (eq (s .long) nothing) _ _ (λ i. flat-ranged)
     (λ i.
     let a = lt→le (s .long) (ofBits binary64 0x0DF0000000000000) h in
     let f = finite-between nought (s .long) (ofBits binary64 0x0DF0000000000000) tt (unfold ofBits in tt) (long-above s o) a in
@@ -170,10 +171,10 @@ scaled-ranged s o =
     }))
 
 -- as the callees' results have them
-pub ranged-at : (y x : Float) (p s : Triangle) → T (fits binary64 y) → T (fits binary64 x) → T (le zero y && le zero x) → p ≡ sidesOf y x → s ≡ scaledOf p → Ranged s
+pub ranged-at : (y x : Float) (p s : Triangle) → T (fits binary64 y) → T (fits binary64 x) → T (le nothing y && le nothing x) → p ≡ sidesOf y x → s ≡ scaledOf p → Ranged s
 ranged-at y x p s F G h e g =
-    subst Ranged (sym (g ∙ ap scaledOf e)) (scaled-ranged (sidesOf y x) (sides-ordered y x F G (and-l (le zero y) (le zero x) h) (and-r (le zero y) (le zero x) h)))
+    subst Ranged (sym (g ∙ ap scaledOf e)) (scaled-ranged (sidesOf y x) (sides-ordered y x F G (and-l (le nothing y) (le nothing x) h) (and-r (le nothing y) (le nothing x) h)))
 
-pub above-at : (y x a b : Float) → T (fits binary64 y) → T (fits binary64 x) → T (not (isNan y)) → T (not (isNan x)) → a ≡ magnitude y → b ≡ magnitude x → T (le zero a && le zero b)
+pub above-at : (y x a b : Float) → T (fits binary64 y) → T (fits binary64 x) → T (not (isNan y)) → T (not (isNan x)) → a ≡ magnitude y → b ≡ magnitude x → T (le nothing a && le nothing b)
 above-at y x a b F G n m e g =
-    subst₂ (λ (u v : Float). T (le zero u && le zero v)) (sym e) (sym g) (and-i (le zero (magnitude y)) (le zero (magnitude x)) (magnitude-above y F n) (magnitude-above x G m))
+    subst₂ (λ (u v : Float). T (le nothing u && le nothing v)) (sym e) (sym g) (and-i (le nothing (magnitude y)) (le nothing (magnitude x)) (magnitude-above y F n) (magnitude-above x G m))

@@ -12,9 +12,10 @@ use lib.Ieee.Positive.{positive}
 use Rattle.laws.proofs.Order.{nought, finite-between}
 use Rattle.laws.proofs.Bits.{bits-between}
 use Rattle.laws.proofs.Interval.{Interval, iv, Inside, Expr, var, lit, sum, difference, eval, passes, Between, bounded, in-literals}
+use Rattle.machine.specs.Small.{nothing, one}
 use Rattle.angle.proofs.Ends.{positive-above, quotient-at-most-one, quotient-at-least-zero}
 use Rattle.angle.proofs.Sides.{from-zero, to-zero}
-use Rattle.angle.specs.Angle.{zero, one, grid, stepOf}
+use Rattle.angle.specs.Angle.{grid, stepOf}
 use Rattle.angle.specs.Range.{lowest, highest, Ranged}
 use Rattle.angle.specs.declared.angle.Triangle.{Triangle}
 use Rattle.angle.specs.declared.angle.Step.{Step}
@@ -48,18 +49,17 @@ module _ (s : Triangle) (r : Ranged s) where
   pub short-above : T (le nought (s .short))
   short-above = from-zero (s .short) (r .start)
 
-  pub short-finite : T (finite (s .short))
+  short-finite : T (finite (s .short))
   short-finite = finite-between nought (s .short) (s .long) tt long-finite short-above (r .order)
 
-  pub quotient-between : Between zero one (div binary64 (s .short) (s .long))
-  unfolding one
+  pub quotient-between : Between nothing one (div binary64 (s .short) (s .long))
   quotient-between =
       let l = quotient-at-least-zero (s .short) (s .long) short-finite long-positive short-above in
       let u = quotient-at-most-one (s .short) (s .long) short-finite long-positive (r .order) in
       (finite-between nought (div binary64 (s .short) (s .long)) one tt (unfold ofBits in tt) l u, to-zero (div binary64 (s .short) (s .long)) l, u)
 
   inside : Inside (unit ∷ []) (div binary64 (s .short) (s .long) ∷ [])
-  unfolding unit zero one
+  unfolding unit
   inside = (in-literals (ofBits binary64 0) (ofBits binary64 0x3FF0000000000000) (div binary64 (s .short) (s .long)) (unfold ofBits in tt) (quotient-between .1) (quotient-between .2), tt)
 
   sum-between : Between (ofBits binary64 0x42D0000000000000) (ofBits binary64 0x42D0000000000040) (add binary64 (div binary64 (s .short) (s .long)) grid)
@@ -78,14 +78,14 @@ module _ (s : Triangle) (r : Ranged s) where
   unfolding stepOf
   index-below = let h = index-bounds in omega arith
 
-  pub value-between : Between zero one (stepOf s .value)
-  unfolding stepOf eval back moved grid zero one
+  pub value-between : Between nothing one (stepOf s .value)
+  unfolding stepOf eval back moved grid
   value-between = bounded binary64 (unit ∷ []) (div binary64 (s .short) (s .long) ∷ []) back (ofBits binary64 0) (ofBits binary64 0x3FF0000000000000) inside back-test
 
   -- as a callee's result has them
   pub index-at : (u : Step) → u ≡ stepOf s → u .index < 65
   index-at u e = subst (λ (v : Step). v .index < 65) (sym e) index-below
 
-  pub value-at : (u : Step) → u ≡ stepOf s → T (le zero (u .value) && le (u .value) one)
+  pub value-at : (u : Step) → u ≡ stepOf s → T (le nothing (u .value) && le (u .value) one)
   value-at u e =
-      subst (λ (v : Step). T (le zero (v .value) && le (v .value) one)) (sym e) (and-i (le zero (stepOf s .value)) (le (stepOf s .value) one) (value-between .1) (value-between .2))
+      subst (λ (v : Step). T (le nothing (v .value) && le (v .value) one)) (sym e) (and-i (le nothing (stepOf s .value)) (le (stepOf s .value) one) (value-between .1) (value-between .2))

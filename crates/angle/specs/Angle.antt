@@ -1,23 +1,19 @@
 -- The angle of the point (x, y), atan2(y, x), from -π to π. The longer of |x| and |y| is a side of a triangle with an angle of at most π/4,
--- whose tangent is shorter / longer; that angle is a tabled atan(j/64) and a rest by a series, as an unevaluated sum, and is then
--- turned into its quadrant. The sign of y is put back last. A not-a-number gives the fixed one. Definitions only.
+-- whose tangent is shorter / longer; that angle is a tabled atan(j/64) and a rest by a series, as an unevaluated sum, and is then turned
+-- into its quadrant. The sign of y is put back last. A not-a-number gives the fixed one. Own design, after the table method: the scope
+-- leaves the formula open. DLMF 4.24.3 for the series, 4.24.15 for the step from a tabled arc. Definitions only.
 use Prim.Native.Nat.{_-_, _%_}
 use mathlib.Core.Bool.{Bool, _||_, cond}
 use lib.Dec.{leb}
 use lib.Ieee.{Float, nan, binary64, ofBits, toBits, neg, add, sub, mul, div, lt, le, eq, isNan}
-use Rattle.angle.specs.Tables.{tabledOf}
+use Rattle.machine.specs.Small.{nothing, one}
+use Rattle.angle_tables.specs.Tables.{tabledOf}
 use Rattle.angle.specs.declared.angle.Triangle.{Triangle}
-use Rattle.angle.specs.declared.tables.Sum.{Sum}
+use Rattle.angle_tables.specs.declared.tables.Sum.{Sum}
 use Rattle.angle.specs.declared.angle.Tangent.{Tangent}
 use Rattle.angle.specs.declared.angle.Step.{Step}
 
 -- ---- constants
-
-unfoldable pub zero : Float
-zero = ofBits binary64 0
-
-unfoldable pub one : Float
-one = ofBits binary64 0x3FF0000000000000
 
 unfoldable pub infinity : Float
 infinity = ofBits binary64 0x7FF0000000000000
@@ -62,7 +58,7 @@ times c s = record {
 unfoldable pub flat : Triangle
 flat = record {
   long = one;
-  short = zero;
+  short = nothing;
 }
 
 unfoldable pub even : Triangle
@@ -77,7 +73,7 @@ loweredOf s = cond (eq (s .long) infinity) (cond (eq (s .short) infinity) even f
 
 -- 2^200; two zeros are as (1, 0)
 unfoldable pub raisedOf : Triangle → Triangle
-raisedOf s = cond (eq (s .long) zero) flat (times (ofBits binary64 0x4C70000000000000) s)
+raisedOf s = cond (eq (s .long) nothing) flat (times (ofBits binary64 0x4C70000000000000) s)
 
 -- above 2^1000, below 2^-800
 unfoldable pub scaledOf : Triangle → Triangle
@@ -145,7 +141,7 @@ arcOf s =
     cond (le (s .short) (mul binary64 (s .long) (ofBits binary64 0x3E30000000000000)))
     (record {
       high = div binary64 (s .short) (s .long);
-      low = zero;
+      low = nothing;
     })
     (tabledArcOf s)
 
@@ -165,14 +161,14 @@ backOf arc = record {
 }
 
 -- π/2 and π: 1.5707963267948966 + 6.123233995736766e-17, 3.141592653589793 + 1.2246467991473532e-16
-unfoldable pub quarter : Sum
-quarter = record {
+unfoldable pub quarterTurn : Sum
+quarterTurn = record {
   high = ofBits binary64 0x3FF921FB54442D18;
   low = ofBits binary64 0x3C91A62633145C07;
 }
 
-unfoldable pub half : Sum
-half = record {
+unfoldable pub halfTurn : Sum
+halfTurn = record {
   high = ofBits binary64 0x400921FB54442D18;
   low = ofBits binary64 0x3CA1A62633145C07;
 }
@@ -180,8 +176,8 @@ half = record {
 -- steep: y is the longer side; left: x has a minus sign
 unfoldable pub turnedOf : Sum → Bool → Bool → Float
 turnedOf arc steep left =
-    cond steep (cond left (awayOf quarter arc) (awayOf quarter (backOf arc)))
-    (cond left (awayOf half (backOf arc)) (add binary64 (arc .high) (arc .low)))
+    cond steep (cond left (awayOf quarterTurn arc) (awayOf quarterTurn (backOf arc)))
+    (cond left (awayOf halfTurn (backOf arc)) (add binary64 (arc .high) (arc .low)))
 
 -- the angle of a point above the axis, by the magnitudes of y and x and the side of x
 unfoldable pub upperOf : Float → Float → Bool → Float

@@ -5,10 +5,12 @@ ghost use mathlib.Core.Path.{_≡_};
 ghost use mathlib.Core.Bool.{not, _&&_};
 ghost use lib.Dec.{T};
 ghost use lib.Ieee.{isNan, le};
-ghost use Rattle.angle.specs.Angle.{zero, one, negative, magnitude, leading, largerOf, smallerOf, sidesOf, loweredOf, raisedOf, scaledOf, stepOf, tangentOf, seriesOf, joinedOf, tabledArcOf, arcOf, turnedOf, awayOf, upperOf, angleOf};
+ghost use Rattle.machine.specs.Small.{nothing, one};
+ghost use Rattle.angle.specs.Angle.{negative, magnitude, leading, largerOf, smallerOf, sidesOf, loweredOf, raisedOf, scaledOf};
+ghost use Rattle.angle.specs.Angle.{stepOf, tangentOf, seriesOf, joinedOf, tabledArcOf, arcOf, turnedOf, awayOf, upperOf, angleOf};
 ghost use Rattle.angle.specs.Range.{Ranged};
-use crate::tables::Sum;
-use crate::tables::tabled;
+use angle_tables::tables::Sum;
+use angle_tables::tables::tabled;
 use machine::constants;
 
 // atan v = v + A3 v^3 + A5 v^5 + A7 v^7, fitted to |v| <= 1/128
@@ -151,7 +153,7 @@ fn nearest_step(s: Triangle) -> Step
 // The tangent of the angle between the point's radius and the step's, (b - t a) / (a + t b), as leading digits and the rest.
 fn tangent_left(s: Triangle, t: f64) -> Tangent
     requires { ⌜ Ranged s ⌝ }
-    requires { ⌜ T (le zero t && le t one) ⌝ }
+    requires { ⌜ T (le nothing t && le t one) ⌝ }
     ensures { λ r. ⌜ r ≡ tangentOf s t ⌝ }
 {
     let a = s.long;
@@ -258,7 +260,7 @@ fn turned(arc: Sum, steep: bool, left: bool) -> f64
 
 // The angle of a point above the axis, by the magnitudes of its parts and the side that it lies on.
 fn upper(y: f64, x: f64, left: bool) -> f64
-    requires { ⌜ T (le zero y && le zero x) ⌝ }
+    requires { ⌜ T (le nothing y && le nothing x) ⌝ }
     ensures { λ r. ⌜ r ≡ upperOf y x left ⌝ }
 {
     turned(arc(scaled(sides(y, x))), y > x, left)

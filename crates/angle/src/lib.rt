@@ -1,3 +1,2 @@
-// The angle of a point of the plane: atan2 for f64, with the tables that it rests on.
+// The angle of a point of the plane: atan2 for f64.
 pub mod angle;
-pub mod tables;

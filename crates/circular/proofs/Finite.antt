@@ -183,7 +183,7 @@ within-two-in a f s =
     within (ofBits binary64 0x4130000000000000) (ofBits binary64 0x4000000000000000) 2 (unfold ofBits in tt) (unfold ofBits in tt) (unfold ofBits in lit≤ tt) (unfold ofBits le round in tt) a f s
 
 -- the rest by a half
-abbrev pub restOf : Float → Float
+abbrev restOf : Float → Float
 restOf a = a ⊖ ofBits binary64 0x3FE0000000000000 ⊗ (ofBits binary64 0x4000000000000000 ⊗ a ⊕ ofBits binary64 0x4330000000000000 ⊖ ofBits binary64 0x4330000000000000)
 
 rest-expr : Expr

@@ -1,4 +1,5 @@
--- cos x. Not a number where x is none or an infinity. Definitions only.
+-- cos x: reduced to quarter turns (Reduce.antt), then one kernel (Kernel.antt). Not a number where x is none or an infinity. Definitions
+-- only.
 use Prim.Native.Nat.{_+_}
 use mathlib.Core.Bool.{false}
 use lib.Ieee.{Float, nan, inf, fin, neg}

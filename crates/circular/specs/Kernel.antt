@@ -1,9 +1,10 @@
--- The sine and the cosine of hi + lo for an angle of at most about π/4, the classic polynomials of degree 13 and 14, and the sine a number of
--- quarter turns further on. Definitions only.
+-- The sine and the cosine of hi + lo for an angle of at most about π/4, the classic polynomials of degree 13 and 14 (fdlibm's
+-- k_sin.c and k_cos.c), and the sine a number of quarter turns further on. Definitions only.
 use Prim.Native.Nat.{ℕ, _/_, _%_}
 use mathlib.Core.Bool.{cond}
 use lib.Dec.{eqb}
 use lib.Ieee.{Float, binary64, ofBits}
+use Rattle.machine.specs.Small.{half, one}
 use Rattle.laws.specs.Operators.{_⊕_, _⊖_, _⊗_}
 
 -- r = s2 + s3 z + .. + s6 z⁴ with z = hi², and hi + s1 hi³ + r hi⁵ + lo (1 - z / 2)
@@ -15,7 +16,6 @@ sineKernel hi lo =
     let s4 = ofBits binary64 0x3EC71DE357B1FE7D in
     let s5 = ofBits binary64 0xBE5AE5E68A2B9CEB in
     let s6 = ofBits binary64 0x3DE5D93A5ACFD57C in
-    let half = ofBits binary64 0x3FE0000000000000 in
     let z = hi ⊗ hi in
     let v = z ⊗ hi in
     let r = (s2 ⊕ z ⊗ (s3 ⊕ z ⊗ s4)) ⊕ z ⊗ (z ⊗ z) ⊗ (s5 ⊕ z ⊗ s6) in
@@ -30,8 +30,6 @@ cosineKernel hi lo =
     let c4 = ofBits binary64 0xBE927E4F809C52AD in
     let c5 = ofBits binary64 0x3E21EE9EBDB4B1C4 in
     let c6 = ofBits binary64 0xBDA8FAE9BE8838D4 in
-    let half = ofBits binary64 0x3FE0000000000000 in
-    let one = ofBits binary64 0x3FF0000000000000 in
     let z = hi ⊗ hi in
     let w = z ⊗ z in
     let r = z ⊗ (c1 ⊕ z ⊗ (c2 ⊕ z ⊗ c3)) ⊕ w ⊗ w ⊗ (c4 ⊕ z ⊗ (c5 ⊕ z ⊗ c6)) in

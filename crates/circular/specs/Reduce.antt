@@ -1,8 +1,10 @@
--- An angle a without a minus sign as hi + lo and a number of quarter turns, counted to 4. Definitions only.
+-- An angle a without a minus sign as hi + lo and a number of quarter turns, counted to 4. Own design: the scope leaves the formula open.
+-- Definitions only.
 use Prim.Native.Nat.{_-_, _%_}
 use mathlib.Core.Bool.{cond}
 use lib.Ieee.{Float, binary64, ofBits, toBits, rem, lt}
 use Rattle.laws.specs.Operators.{_⊕_, _⊖_, _⊗_}
+use Rattle.machine.specs.Small.{nothing, half, two}
 use Rattle.circular.specs.declared.reduce.Reduced.{Reduced}
 
 -- above 65536 the rest by 182.212373908208, 29 turns rounded
@@ -29,7 +31,7 @@ quartersOf a =
 
 -- below 0.78125 there is nothing to take off
 unfoldable pub reduceOf : Float → Reduced
-reduceOf a = cond (lt a (ofBits binary64 0x3FE9000000000000)) (record { hi = a; lo = ofBits binary64 0; quarter = 0 }) (quartersOf (withinTurns a))
+reduceOf a = cond (lt a (ofBits binary64 0x3FE9000000000000)) (record { hi = a; lo = nothing; quarter = 0 }) (quartersOf (withinTurns a))
 
 -- the leading 26 digits
 unfoldable pub leading : Float → Float
@@ -37,17 +39,15 @@ leading r = let b = toBits binary64 r in ofBits binary64 (b - b % 134217728)
 
 -- above 2^20 the rest by 2
 unfoldable pub withinTwo : Float → Float
-withinTwo a = cond (lt (ofBits binary64 0x4130000000000000) a) (rem binary64 a (ofBits binary64 0x4000000000000000)) a
+withinTwo a = cond (lt (ofBits binary64 0x4130000000000000) a) (rem binary64 a two) a
 
--- π a: the nearest whole number of halves is what 2 a adds to 2^52, and what is left of a times π in two parts, 3.1415926814079285 of 26 digits
--- and -2.7818135228334233e-8
+-- π a: the nearest whole number of halves is what 2 a adds to 2^52, and what is left of a times π in two parts, 3.1415926814079285 of 26
+-- digits and -2.7818135228334233e-8
 unfoldable pub halvesOf : Float → Reduced
 halvesOf a =
     let piHigh = ofBits binary64 0x400921FB58000000 in
     let piLow = ofBits binary64 0xBE5DDE973DCB3B3A in
     let pi = ofBits binary64 0x400921FB54442D18 in
-    let two = ofBits binary64 0x4000000000000000 in
-    let half = ofBits binary64 0x3FE0000000000000 in
     let shift = ofBits binary64 0x4330000000000000 in
     let t = two ⊗ a ⊕ shift in
     let r = a ⊖ half ⊗ (t ⊖ shift) in

@@ -1,4 +1,5 @@
--- sin x. Not a number where x is none or an infinity. Definitions only.
+-- sin x: reduced to quarter turns (Reduce.antt), then one kernel (Kernel.antt). Not a number where x is none or an infinity. Definitions
+-- only.
 use Prim.Native.Nat.{_+_}
 use mathlib.Core.Bool.{false, cond}
 use lib.Ieee.{Float, nan, inf, fin, neg}

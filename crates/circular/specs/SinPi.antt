@@ -1,14 +1,16 @@
--- sin(πx). Not a number where x is none or an infinity. Definitions only.
+-- sin(πx): reduced to quarter turns (Reduce.antt), then one kernel (Kernel.antt). Not a number where x is none or an infinity. Definitions
+-- only.
 use Prim.Native.Nat.{_+_}
 use mathlib.Core.Bool.{false, cond}
-use lib.Ieee.{Float, nan, inf, fin, binary64, ofBits}
+use lib.Ieee.{Float, nan, inf, fin}
 use Rattle.laws.specs.Operators.{_⊖_}
+use Rattle.machine.specs.Small.{nothing}
 use Rattle.circular.specs.Kernel.{sineKernel, cosineKernel, turned}
 use Rattle.circular.specs.Reduce.{reducePiOf}
 
 -- -y, and +0 for either zero
 unfoldable pub fromZero : Float → Float
-fromZero y = ofBits binary64 0 ⊖ y
+fromZero y = nothing ⊖ y
 
 -- a minus sign is half a turn
 unfoldable pub sinPiOf : Float → Float

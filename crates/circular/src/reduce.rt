@@ -90,7 +90,8 @@ fn halves(a: f64) -> Reduced
 pub fn reduce_pi(a: f64) -> Reduced
     ensures { λ r. ⌜ r ≡ reducePiOf a ⌝ }
 {
-    // A zero has nothing to take off. The two other ways have a call each, as above; with no third way beside them the compiler would join the two calls into one, and take whole turns off every angle.
+    // A zero has nothing to take off. The two other ways have a call each, as above; with no third way beside them the compiler would join
+    // the two calls into one, and take whole turns off every angle.
     if a == 0.0 {
         return Reduced {
             hi: 0.0,

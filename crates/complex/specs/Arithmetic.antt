@@ -1,11 +1,13 @@
--- Complex arithmetic on pairs of f64 parts: each operation on a part rounds once. Definitions only.
-use lib.Ieee.{Float, binary64, ofBits, neg}
+-- Complex arithmetic on pairs of f64 parts: each operation on a part rounds once. The scope's section Arithmetic, after num's
+-- complex::Complex; in Algorithm 644 the product is ZMLT and the quotient ZDIV. Definitions only.
+use lib.Ieee.{Float, neg}
 use Rattle.laws.specs.Operators.{_⊕_, _⊖_, _⊗_, _⊘_}
+use Rattle.machine.specs.Small.{nothing}
 use Rattle.complex.specs.declared.number.Complex.{Complex}
 
 -- both parts +0
 abbrev pub zeroPair : Complex
-zeroPair = record { re = ofBits binary64 0; im = ofBits binary64 0 }
+zeroPair = record { re = nothing; im = nothing }
 
 unfoldable pub plusOf : Complex → Complex → Complex
 plusOf z w = record { re = z .re ⊕ w .re; im = z .im ⊕ w .im }
@@ -48,4 +50,4 @@ minusReal z t = record { re = z .re ⊖ t; im = z .im }
 
 -- a real number over a complex one stands as (a, 0)
 unfoldable pub realOver : Float → Complex → Complex
-realOver a z = quotientOf (record { re = a; im = ofBits binary64 0 }) z
+realOver a z = quotientOf (record { re = a; im = nothing }) z

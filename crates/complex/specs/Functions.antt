@@ -1,9 +1,11 @@
--- The functions of a complex number, by their real formulas. Definitions only.
+-- The functions of a complex number, by their real formulas: the scope's section Arithmetic, after num's complex::Complex. In Algorithm 644
+-- the modulus is XZABS, ln XZLOG, the root XZSQRT, e^z XZEXP, cosh and sinh ZSHCH. Definitions only.
 -- A function of the modulus and the angle is defined on these two first: a caller may have them already.
 use Prim.Native.Nat.{ℕ}
-use lib.Ieee.{Float, binary64, ofBits}
+use lib.Ieee.{Float}
 use Rattle.laws.specs.Iterate.{iterate}
 use Rattle.laws.specs.Operators.{_⊗_, _⊘_}
+use Rattle.machine.specs.Small.{nothing, one, two}
 use Rattle.exponential.specs.Exp.{expOf}
 use Rattle.exponential.specs.Cosh.{coshOf}
 use Rattle.exponential.specs.Sinh.{sinhOf}
@@ -12,7 +14,6 @@ use Rattle.circular.specs.Sin.{sinOf}
 use Rattle.circular.specs.Cos.{cosOf}
 use Rattle.angle.specs.Angle.{angleOf}
 use Rattle.roots.specs.Hypot.{hypotOf}
-use Rattle.roots.specs.Sqrt.{sqrtOf}
 use Rattle.complex.specs.declared.number.Complex.{Complex}
 use Rattle.complex.specs.Arithmetic.{plusOf, conjugateOf, productOf, timesReal}
 
@@ -27,31 +28,25 @@ argumentOf z = angleOf (z .im) (z .re)
 unfoldable pub polarOf : Float → Float → Complex
 polarOf r h = record { re = r ⊗ cosOf h; im = r ⊗ sinOf h }
 
+-- DLMF 4.2(i)
 unfoldable pub lnWith : Float → Float → Complex
 lnWith modulus angle = record { re = lnOf modulus; im = angle }
 
 unfoldable pub complexLnOf : Complex → Complex
 complexLnOf z = lnWith (modulusOf z) (argumentOf z)
 
--- half the angle is its quotient by 2
+-- the square root from the root of the modulus and the angle; half the angle is its quotient by 2
 unfoldable pub atHalfAngle : Float → Float → Complex
-atHalfAngle root angle = polarOf root (angle ⊘ ofBits binary64 0x4000000000000000)
+atHalfAngle root angle = polarOf root (angle ⊘ two)
 
--- the root of the modulus at half the angle
-unfoldable pub complexSqrtOf : Complex → Complex
-complexSqrtOf z = atHalfAngle (sqrtOf (modulusOf z)) (argumentOf z)
-
--- 2/z: with t = 1/|z| and s = (re t, -im t), each part of s doubled, then times t
+-- 2/z (ZBKNU's RZ, src/amos/utils.rs two_over_z_safe): with t = 1/|z| and s = (re t, -im t), each part of s doubled, then times t
 unfoldable pub twoOverWith : Complex → Float → Complex
 twoOverWith z modulus =
-    let t = ofBits binary64 0x3FF0000000000000 ⊘ modulus in
+    let t = one ⊘ modulus in
     let s = timesReal (conjugateOf z) t in
     timesReal (plusOf s s) t
 
-unfoldable pub twoOverOf : Complex → Complex
-twoOverOf z = twoOverWith z (modulusOf z)
-
--- ---- exponential and hyperbolic
+-- ---- exponential and hyperbolic: DLMF 4.2(iii), 4.35(iv)
 unfoldable pub complexExpOf : Complex → Complex
 complexExpOf z = polarOf (expOf (z .re)) (z .im)
 
@@ -63,7 +58,4 @@ complexSinhOf z = record { re = sinhOf (z .re) ⊗ cosOf (z .im); im = coshOf (z
 
 -- ---- powers: as many products in a row, starting from 1
 unfoldable pub powerOf : Complex → ℕ → Complex
-powerOf z i = iterate i (λ p. productOf p z) (record { re = ofBits binary64 0x3FF0000000000000; im = ofBits binary64 0 })
-
-unfoldable pub realPowerOf : Float → ℕ → Float
-realPowerOf x i = iterate i (λ p. p ⊗ x) (ofBits binary64 0x3FF0000000000000)
+powerOf z i = iterate i (λ p. productOf p z) (record { re = one; im = nothing })

@@ -2,7 +2,8 @@
 // Promised: each is its definition in specs/Functions.antt, for every pair of parts. A form that takes what its caller has
 // already worked out, the modulus, the angle or a root, is the plain one with that put in.
 ghost use mathlib.Core.Path.{_≡_};
-ghost use Rattle.complex.specs.Functions.{modulusOf, argumentOf, lnWith, complexLnOf, polarOf, atHalfAngle, complexSqrtOf, complexExpOf, complexCoshOf, complexSinhOf, twoOverWith, twoOverOf};
+ghost use Rattle.complex.specs.Functions.{modulusOf, argumentOf, lnWith, complexLnOf, polarOf, atHalfAngle, twoOverWith};
+ghost use Rattle.complex.specs.Functions.{complexExpOf, complexCoshOf, complexSinhOf};
 use crate::number::Complex;
 use angle::angle::angle;
 use circular::sin_cos::sin_cos;
@@ -11,7 +12,6 @@ use exponential::exp;
 use exponential::sinh;
 use logarithm::ln;
 use roots::hypot::hypot;
-use roots::sqrt;
 
 // Three functions of one number, which share the sine and the cosine of its imaginary part.
 pub struct ExpCoshSinh {
@@ -39,43 +39,10 @@ impl Complex {
         ln_with(self.modulus(), self.argument())
     }
 
-    // the root of the modulus at half the angle
-    pub fn sqrt(self) -> Complex
-        ensures { λ r. ⌜ r ≡ complexSqrtOf self ⌝ }
-    {
-        at_half_angle(sqrt::sqrt(self.modulus()), self.argument())
-    }
-
     pub fn exp(self) -> Complex
         ensures { λ r. ⌜ r ≡ complexExpOf self ⌝ }
     {
         polar(exp::exp(self.re), self.im)
-    }
-
-    pub fn cosh(self) -> Complex
-        ensures { λ r. ⌜ r ≡ complexCoshOf self ⌝ }
-    {
-        let turn = sin_cos(self.im);
-        Complex {
-            re: cosh::cosh(self.re) * turn.cos,
-            im: sinh::sinh(self.re) * turn.sin,
-        }
-    }
-
-    pub fn sinh(self) -> Complex
-        ensures { λ r. ⌜ r ≡ complexSinhOf self ⌝ }
-    {
-        let turn = sin_cos(self.im);
-        Complex {
-            re: sinh::sinh(self.re) * turn.cos,
-            im: cosh::cosh(self.re) * turn.sin,
-        }
-    }
-
-    pub fn two_over(self) -> Complex
-        ensures { λ r. ⌜ r ≡ twoOverOf self ⌝ }
-    {
-        self.two_over_with(self.modulus())
     }
 
     // 2/z from the modulus of z; by way of a number of modulus 1, so that no square of it overflows or underflows
@@ -116,7 +83,26 @@ pub fn ln_with(modulus: f64, angle: f64) -> Complex
     }
 }
 
+// With nothing to work out at 0.
 pub fn exp_cosh_sinh(z: Complex) -> ExpCoshSinh
+    ensures { λ r. ⌜ (r .exp ≡ complexExpOf z) × (r .cosh ≡ complexCoshOf z) × (r .sinh ≡ complexSinhOf z) ⌝ }
+{
+    if z.re == 0.0 {
+        if z.im == 0.0 {
+            return ExpCoshSinh {
+                exp: Complex { re: 1.0, im: z.im },
+                cosh: Complex {
+                    re: 1.0,
+                    im: z.re * z.im,
+                },
+                sinh: z,
+            };
+        }
+    }
+    off_zero(z)
+}
+
+fn off_zero(z: Complex) -> ExpCoshSinh
     ensures { λ r. ⌜ (r .exp ≡ complexExpOf z) × (r .cosh ≡ complexCoshOf z) × (r .sinh ≡ complexSinhOf z) ⌝ }
 {
     let turn = sin_cos(z.im);

@@ -6,7 +6,7 @@ use lib.Ieee.{Float, binary64, ofBits, add, sub, mul, lt, le}
 use lib.Ieee.Scale.{finite}
 use Rattle.laws.proofs.Interval.{Interval, iv, Expr, var, lit, sum, difference, product, share, eval, passes, bounded, in-literals}
 use Rattle.laws.proofs.Value.{bare}
-use Rattle.exponential.specs.Exp.{limit, lowerLimit, half}
+use Rattle.exponential.specs.Exp.{limit, lowerLimit}
 use Rattle.exponential.specs.Cosh.{coshSmall, halfSum, coshMagnitude, coshOf}
 use Rattle.exponential.proofs.Ranges.{sum-finite}
 use Rattle.exponential.proofs.Magnitudes.{split-finite, bare-not-below-zero, bare-within}
@@ -41,7 +41,7 @@ unfolding passes small-expr
 small-test = tt
 
 small-finite : (a : Float) → T (le (ofBits binary64 0) a) → T (le a (ofBits binary64 0x3FF0000000000000)) → T (finite (coshSmall a))
-unfolding eval small-expr coshSmall half ofBits
+unfolding eval small-expr coshSmall ofBits
 small-finite a l h =
     bounded binary64 (unit ∷ []) (a ∷ []) small-expr (ofBits binary64 0) (ofBits binary64 0x4010000000000000) (in-literals (ofBits binary64 0) (ofBits binary64 0x3FF0000000000000) a tt l h, tt) small-test .0
 
@@ -56,5 +56,5 @@ cosh-finite x l h =
     subst (λ (z : Float). T (finite z)) (sym (cosh-by-magnitude x)) (magnitude-finite (bare x) (bare-not-below-zero x l) (b .0) (b .1))
 
 pub cosh-at-zero : coshOf (ofBits binary64 0) ≡ ofBits binary64 0x3FF0000000000000
-unfolding coshOf coshMagnitude coshSmall half ofBits add sub mul lt
+unfolding coshOf coshMagnitude coshSmall ofBits add sub mul lt
 cosh-at-zero = refl

@@ -12,7 +12,7 @@ use Rattle.laws.proofs.Interval.{Interval, iv, In}
 use Rattle.exponential_tables.specs.Tables.{coarseHigh, coarseLow, fineHigh, fineLow}
 
 -- each entry lies between l and h
-unfoldable pub between : Float → Float → List Float → Bool
+unfoldable between : Float → Float → List Float → Bool
 unfolding le
 between l h [] = true
 between l h (x ∷ xs) = le l x && le x h && between l h xs

@@ -1,4 +1,4 @@
--- For every x from -705 to 705 exp is finite and above 0. Its value at 0, by computation. Assumes nothing.
+-- For every x from -705 to 705 exp is finite and above 0. Its value at either zero, by computation. Assumes nothing.
 use mathlib.Core.Path.{_≡_, refl, sym, subst, _∙_}
 use mathlib.Core.Bool.{false, _&&_}
 use Prim.Native.Nat.{_/_, _%_, _<_}
@@ -64,7 +64,7 @@ module _ (x : Float) (l : T (le lowerLimit x)) (h : T (le x limit)) where
       let y = expOf x in
       lt-of-values (ofBits binary64 0) y 0 1 (num y) (den y) (lit< tt) (den-pos y) zero-value (own-value y exp-positive) (let p = positive-num y exp-positive in omega arith)
 
--- ---- at 0
+-- ---- at +0 and -0
 pair-at-zero : total (expPair (ofBits binary64 0)) ≡ ofBits binary64 0x3FF0000000000000
 unfolding total expPair product growth steps rest shifted coarsePower finePower coarseHigh coarseLow fineHigh fineLow ofBits toBits add sub mul
 pair-at-zero = refl
@@ -72,3 +72,11 @@ pair-at-zero = refl
 pub exp-at-zero : expOf (ofBits binary64 0) ≡ ofBits binary64 0x3FF0000000000000
 unfolding lowerLimit limit ofBits neg le lt
 exp-at-zero = near (ofBits binary64 0) tt tt ∙ pair-at-zero
+
+pair-at-minus-zero : total (expPair (neg (ofBits binary64 0))) ≡ ofBits binary64 0x3FF0000000000000
+unfolding total expPair product growth steps rest shifted coarsePower finePower coarseHigh coarseLow fineHigh fineLow ofBits toBits add sub mul neg
+pair-at-minus-zero = refl
+
+pub exp-at-minus-zero : expOf (neg (ofBits binary64 0)) ≡ ofBits binary64 0x3FF0000000000000
+unfolding lowerLimit limit ofBits neg le lt
+exp-at-minus-zero = near (neg (ofBits binary64 0)) tt tt ∙ pair-at-minus-zero

@@ -102,14 +102,14 @@ module _ (p : Pair) (w : Parts p) where
       bounded binary64 (highs ∷ lows ∷ []) (p .hi ∷ p .lo ∷ []) (sum (var 0) (var 1)) (ofBits binary64 0x0016000000000000) (ofBits binary64 0x7FD0000000000000) (w .high, (w .low, tt)) tt
 
   pub difference-finite : T (finite (halfDifference p))
-  unfolding eval halfDifference exp.half passes
+  unfolding eval halfDifference passes
   difference-finite =
       (bounded binary64 (highs ∷ lows ∷ []) (p .hi ∷ p .lo ∷ [])
       (product (lit (ofBits binary64 0x3FE0000000000000)) (sum (var 0) (difference (var 1) (quotient (lit (ofBits binary64 0x3FF0000000000000)) (sum (var 0) (var 1))))))
       (neg (ofBits binary64 0x7FD0000000000000)) (ofBits binary64 0x7FD0000000000000) (w .high, (w .low, tt)) tt) .0
 
   pub sum-finite : T (finite (halfSum p))
-  unfolding eval halfSum exp.half passes
+  unfolding eval halfSum passes
   sum-finite =
       (bounded binary64 (highs ∷ lows ∷ []) (p .hi ∷ p .lo ∷ [])
       (product (lit (ofBits binary64 0x3FE0000000000000)) (sum (var 0) (sum (var 1) (quotient (lit (ofBits binary64 0x3FF0000000000000)) (sum (var 0) (var 1))))))

@@ -11,8 +11,9 @@ use Rattle.laws.proofs.Order.{le-refl-finite, le-trans-float, finite-between, a
 use Rattle.laws.proofs.Interval.{Interval, iv, In, checked, mulI, mulBy, mulPos, mul-in}
 use Rattle.laws.proofs.Value.{finite-no-nan}
 use Rattle.laws.proofs.Bits.{bits-between, bits-finite}
+use Rattle.machine.specs.Small.{half}
 use Rattle.exponential.proofs.Tests.{not-below, ordered}
-use Rattle.exponential.specs.Exp.{limit, lowerLimit, half, shifted, steps}
+use Rattle.exponential.specs.Exp.{limit, lowerLimit, shifted, steps}
 
 -- where the extremes are rounded to
 
@@ -53,14 +54,14 @@ module _ (x : Float) (l : T (le lowerLimit x)) (h : T (le x limit)) where
       (add-mono binary64 x limit (ofBits binary64 0x42E8000000000000) (ofBits binary64 0x42E8000000000000) within-finite limit-finite shift-finite shift-finite h
       (le-refl-finite (ofBits binary64 0x42E8000000000000) shift-finite))
 
-  pub shifted-fits : T (fits binary64 (shifted x))
+  shifted-fits : T (fits binary64 (shifted x))
   unfolding shifted
   shifted-fits = add-fits binary64 x (ofBits binary64 0x42E8000000000000)
 
   pub shifted-bits : (0x42E7FFFFFFFFA7E0 ≤ toBits binary64 (shifted x)) × (toBits binary64 (shifted x) ≤ 0x42E8000000005820)
   shifted-bits = bits-between 0x42E7FFFFFFFFA7E0 0x42E8000000005820 (shifted x) (lit< tt) (lit< tt) (lit< tt) shifted-fits shifted-low shifted-high
 
-  pub shifted-finite : T (finite (shifted x))
+  shifted-finite : T (finite (shifted x))
   shifted-finite =
       finite-between (ofBits binary64 0x42E7FFFFFFFFA7E0) (shifted x) (ofBits binary64 0x42E8000000005820) (bits-finite 0x42E7FFFFFFFFA7E0 (lit< tt)) (bits-finite 0x42E8000000005820 (lit< tt))
       shifted-low shifted-high
@@ -92,16 +93,16 @@ unfolding ofBits neg
 outer = iv (neg (ofBits binary64 0x4087500000000000)) (ofBits binary64 0x4086380000000000)
 
 one-half : Interval
-unfolding ofBits half
+unfolding ofBits
 one-half = iv half half
 
 module _ (x : Float) (l : T (le (neg (ofBits binary64 0x4087500000000000)) x)) (h : T (le x (ofBits binary64 0x4086380000000000))) where
   halved : In (mulI binary64 one-half outer) (mul binary64 half x)
-  unfolding outer one-half ofBits neg half le mulI mulBy mulPos checked mul
+  unfolding outer one-half ofBits neg le mulI mulBy mulPos checked mul
   halved = mul-in binary64 one-half outer half x (tt, tt, tt, tt) (tt, tt, l, h) tt
 
   pub halved-within : T (le lowerLimit (mul binary64 half x)) × T (le (mul binary64 half x) limit)
-  unfolding outer one-half ofBits neg half le mulI mulBy mulPos checked mul lowerLimit limit
+  unfolding outer one-half ofBits neg le mulI mulBy mulPos checked mul lowerLimit limit
   halved-within = (
     le-trans-float lowerLimit (neg (ofBits binary64 0x4077500000000000)) (mul binary64 half x) tt (halved .2),
     le-trans-float (mul binary64 half x) (ofBits binary64 0x4076380000000000) limit (halved .3) tt,

@@ -8,7 +8,7 @@ use lib.Ieee.Scale.{finite}
 use Rattle.laws.proofs.Order.{neg-finite}
 use Rattle.laws.proofs.Interval.{Interval, iv, Expr, var, lit, sum, product, share, eval, passes, bounded, in-literals}
 use Rattle.laws.proofs.Value.{sign, bare}
-use Rattle.exponential.specs.Exp.{limit, lowerLimit, half}
+use Rattle.exponential.specs.Exp.{limit, lowerLimit}
 use Rattle.exponential.specs.Sinh.{sinhSmall, halfDifference, sinhMagnitude, sinhOf}
 use Rattle.exponential.proofs.Ranges.{difference-finite}
 use Rattle.exponential.proofs.Magnitudes.{split-finite, bare-not-below-zero, bare-within}
@@ -39,7 +39,7 @@ unfolding passes small-expr
 small-test = tt
 
 small-finite : (a : Float) → T (le (ofBits binary64 0) a) → T (le a (ofBits binary64 0x3FF0000000000000)) → T (finite (sinhSmall a))
-unfolding eval small-expr sinhSmall half ofBits
+unfolding eval small-expr sinhSmall ofBits
 small-finite a l h =
     bounded binary64 (unit ∷ []) (a ∷ []) small-expr (ofBits binary64 0) (ofBits binary64 0x4000000000000000) (in-literals (ofBits binary64 0) (ofBits binary64 0x3FF0000000000000) a tt l h, tt) small-test .0
 
@@ -59,5 +59,5 @@ sinh-finite x l h =
     go false r f = f
 
 pub sinh-at-zero : sinhOf (ofBits binary64 0) ≡ ofBits binary64 0
-unfolding sinhOf sinhMagnitude sinhSmall half ofBits add sub mul lt
+unfolding sinhOf sinhMagnitude sinhSmall ofBits add sub mul lt
 sinh-at-zero = refl

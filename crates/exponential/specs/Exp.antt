@@ -1,7 +1,9 @@
--- e^x for every x, by two tables and a polynomial up to 705 in magnitude, by the square of e^(x/2) beyond. Definitions only.
+-- e^x for every x, by two tables and a polynomial up to 705 in magnitude, by the square of e^(x/2) beyond. Own design, after the table
+-- method: the scope leaves the formula open. DLMF 4.2.19 for the series. Definitions only.
 use mathlib.Core.Bool.{false, cond, _&&_}
 use Prim.Native.Nat.{ℕ, _-_, _/_, _%_}
 use lib.Ieee.{Float, nan, inf, binary64, ofBits, toBits, neg, lt, le, ne}
+use Rattle.machine.specs.Small.{half, nothing}
 use Rattle.laws.specs.Operators.{_⊕_, _⊖_, _⊗_}
 use Rattle.exponential_tables.specs.Tables.{coarsePower, finePower}
 use Rattle.exponential_tables.specs.declared.Pair.{Pair}
@@ -59,18 +61,14 @@ square p scale first second =
     let d = (p .hi ⊖ s ⊕ p .lo) ⊗ scale in
     (c ⊗ c ⊕ (c ⊕ c) ⊗ d) ⊗ first ⊗ second
 
--- 0.5
-unfoldable pub half : Float
-half = ofBits binary64 0x3FE0000000000000
-
 -- e^x beyond 705 in magnitude: infinity above 710, 0 below -746; the scales are 2^-500 and 2^500, 2^520 and 2^-520
 unfoldable pub expFar : Float → Float
-unfolding expPair square half
+unfolding expPair square
 expFar x =
     cond (ne x x) nan
     (cond (lt (ofBits binary64 0x4086300000000000) x) (inf false)
-    (cond (lt x (neg (ofBits binary64 0x4087500000000000))) (ofBits binary64 0)
-    (cond (lt (ofBits binary64 0) x)
+    (cond (lt x (neg (ofBits binary64 0x4087500000000000))) nothing
+    (cond (lt nothing x)
     (square (expPair (half ⊗ x)) (ofBits binary64 0x20B0000000000000) (ofBits binary64 0x5F30000000000000) (ofBits binary64 0x5F30000000000000))
     (square (expPair (half ⊗ x)) (ofBits binary64 0x6070000000000000) (ofBits binary64 0x1F70000000000000) (ofBits binary64 0x1F70000000000000)))))
 
@@ -85,7 +83,7 @@ expOf x = cond (le lowerLimit x && le x limit) (total (expPair x)) (expFar x)
 
 -- half of e^a for a above 705: infinity above 711
 unfoldable pub halfExpFar : Float → Float
-unfolding expPair square half
+unfolding expPair square
 halfExpFar a =
     cond (ne a a) nan
     (cond (lt (ofBits binary64 0x4086380000000000) a) (inf false)

@@ -1,8 +1,9 @@
--- The hyperbolic sine of every x. Definitions only.
+-- The hyperbolic sine of every x, DLMF 4.28.1. Own formulas: the scope leaves them open. Definitions only.
 use mathlib.Core.Bool.{false, cond}
 use lib.Ieee.{Float, nan, inf, fin, binary64, ofBits, neg, lt, le}
 use Rattle.laws.specs.Operators.{_⊕_, _⊖_, _⊗_, _⊘_}
-use Rattle.exponential.specs.Exp.{limit, half, expPair, halfExpFar}
+use Rattle.machine.specs.Small.{half, one}
+use Rattle.exponential.specs.Exp.{limit, expPair, halfExpFar}
 use Rattle.exponential_tables.specs.declared.Pair.{Pair}
 
 -- below 1: the odd polynomial of degree 15
@@ -21,14 +22,13 @@ sinhSmall a =
 
 -- (e^a - e^-a) / 2 of e^a in two parts
 unfoldable pub halfDifference : Pair → Float
-unfolding half
-halfDifference p = half ⊗ (p .hi ⊕ (p .lo ⊖ ofBits binary64 0x3FF0000000000000 ⊘ (p .hi ⊕ p .lo)))
+halfDifference p = half ⊗ (p .hi ⊕ (p .lo ⊖ one ⊘ (p .hi ⊕ p .lo)))
 
 -- of an a with no minus sign: the polynomial below 1, by e^a to 705, half of e^a beyond
 unfoldable pub sinhMagnitude : Float → Float
 unfolding sinhSmall halfDifference expPair halfExpFar limit
 sinhMagnitude a =
-    cond (lt a (ofBits binary64 0x3FF0000000000000)) (sinhSmall a)
+    cond (lt a one) (sinhSmall a)
     (cond (le a limit) (halfDifference (expPair a)) (halfExpFar a))
 
 -- the sign is taken off and put back

@@ -1,6 +1,6 @@
-// e^x: x = 8(i-88) + (j/32 - 4 - 1/64) + g with g from 0 to 1/32, exactly, so that e^x is a coarse power times a fine one times 1 + growth(g).
-// Own design after the table method; no term is below 0. Promised: expOf for every x; finite and above 0 up to 705 in magnitude (proofs/ExpFacts.antt).
-// Measured: 0.573 units in the last place up to 705, 1.1 beyond, subnormal results included.
+// e^x: x = 8(i-88) + (j/32 - 4 - 1/64) + g with g from 0 to 1/32, exactly, so that e^x is a coarse power times a fine one times 1 +
+// growth(g). Own design after the table method; no term is below 0. Promised: expOf for every x; finite and above 0 up to 705 in magnitude
+// (proofs/ExpFacts.antt). Measured: 0.573 units in the last place up to 705, 1.1 beyond, subnormal results included.
 ghost use mathlib.Core.Path.{_≡_};
 ghost use mathlib.Core.Bool.{false};
 ghost use lib.Dec.{T};

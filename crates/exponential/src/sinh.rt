@@ -1,6 +1,6 @@
-// The hyperbolic sine: an odd polynomial below 1, (e^a - e^-a) / 2 by exp's pair up to 705, half of e^a beyond; the sign is taken off and put back.
-// DLMF 4.28.1. Promised: sinhOf for every x; odd; finite up to 705 in magnitude (proofs/SinhFacts.antt).
-// Measured: 0.822 units in the last place up to 705, 1.1 beyond.
+// The hyperbolic sine: an odd polynomial below 1, (e^a - e^-a) / 2 by exp's pair up to 705, half of e^a beyond; the sign is taken off and
+// put back. DLMF 4.28.1. Promised: sinhOf for every x; odd; finite up to 705 in magnitude (proofs/SinhFacts.antt). Measured: 0.822 units in
+// the last place up to 705, 1.1 beyond.
 ghost use mathlib.Core.Path.{_≡_};
 ghost use Rattle.exponential.specs.Sinh.{sinhSmall, halfDifference, sinhMagnitude, sinhOf};
 use crate::exp::exp_pair;

@@ -3,7 +3,7 @@
 use mathlib.Core.Path.{_≡_, refl, sym, ap, _∙_, subst}
 use mathlib.Core.Logic.{inl, inr}
 use Prim.Native.Nat.{ℕ, zero, suc, _+_, _-_, _*_, _/_, _%_, _^_, _≤_, _<_}
-use native.Mathlib.Nat.{le-trans, le-of-eq, le-of-lt, lt-of-lt-of-le, not-le-of-lt, lt-of-not-le, eq-or-lt-of-le, mod-eq-of-lt, mul-one, mul-assoc, mul-comm, mul-right-comm, mul-le-mul-right, mul-le-mul-left, mul-lt-mul-of-pos-right, pow-succ', suc-add, add-assoc, add-mul, le-of-mul-le-mul-right, lt-of-mul-lt-mul-right}
+use native.Mathlib.Nat.{le-trans, le-of-eq, le-of-lt, lt-of-lt-of-le, not-le-of-lt, lt-of-not-le, eq-or-lt-of-le, mod-eq-of-lt, mul-one, mul-assoc, mul-le-mul-right, mul-le-mul-left, mul-lt-mul-of-pos-right, pow-succ', add-assoc, add-mul, le-of-mul-le-mul-right, lt-of-mul-lt-mul-right}
 use native.Mathlib.Omega.{arith}
 use mathlib.Core.Bool.{Bool, true, false, not, cond, true≢false}
 use lib.Dec.{T, leb, ltb, eqb, leb→le, le→leb, ltb→lt, nltb→le, eqb→eq, not-T, lit<}
@@ -14,7 +14,7 @@ use lib.Ieee.Exact.{HasValue, odd-sign}
 use lib.Ieee.Order.{le-of-values}
 use lib.Ieee.Scale.{finite}
 use lib.Ieee.Positive.{positive, positive-finite, positive-of-value, above, above-of-le}
-use Rattle.laws.proofs.Value.{sign, bare, sign-of-odd, value-finite, finite-no-nan, value-same, value-cross, le-values, lt-of-values, lt-values}
+use Rattle.laws.proofs.Value.{sign, bare, sign-of-odd, value-finite, finite-no-nan, value-same, le-values, lt-values}
 
 -- the pattern of the infinity: each smaller one is that of a finite value without a minus sign
 abbrev pub infBits : ℕ
@@ -136,7 +136,7 @@ field-grows x (suc y) t u h k = lt-of-lt-of-le (field-top x t k) (le-trans (mul-
     below : (x y : ℕ) → x < suc y → x ≤ y
     below x y h = omega arith
 
-pub units-lt : (b c : ℕ) → b < c → unitsOf b < unitsOf c
+units-lt : (b c : ℕ) → b < c → unitsOf b < unitsOf c
 units-lt b c h = elim (eq-or-lt-of-le (fields-le b c h)) [
   | inl e ↦ subst (λ (x : ℕ). unitsOf b < fieldUnits x (c % 2 ^ 52)) e (digits-grow (b / 2 ^ 52) (b % 2 ^ 52) (c % 2 ^ 52) (digits-lt b c h e))
   | inr l ↦ field-grows (b / 2 ^ 52) (c / 2 ^ 52) (b % 2 ^ 52) (c % 2 ^ 52) l (digits-in b)
@@ -172,29 +172,13 @@ bits-le b c h k =
     under : (b c : ℕ) → b ≤ c → c < infBits → b < infBits
     under b c h k = omega arith
 
-pub bits-lt : (b c : ℕ) → b < c → c < infBits → T (lt (ofBits binary64 b) (ofBits binary64 c))
-bits-lt b c h k =
-    lt-of-values (ofBits binary64 b) (ofBits binary64 c) (unitsOf b) (2 ^ 1074) (unitsOf c) (2 ^ 1074) (pow-pos 1074) (pow-pos 1074)
-    (bits-value b (under b c h k)) (bits-value c k) (mul-lt-mul-of-pos-right (units-lt b c h) (pow-pos 1074))
-  where
-    under : (b c : ℕ) → b < c → c < infBits → b < infBits
-    under b c h k = omega arith
-
-pub bits-le-back : (b c : ℕ) → b < infBits → c < infBits → T (le (ofBits binary64 b) (ofBits binary64 c)) → b ≤ c
+bits-le-back : (b c : ℕ) → b < infBits → c < infBits → T (le (ofBits binary64 b) (ofBits binary64 c)) → b ≤ c
 bits-le-back b c h k t =
     units-le-back b c (le-of-mul-le-mul-right (le-values (ofBits binary64 b) (ofBits binary64 c) (unitsOf b) (2 ^ 1074) (unitsOf c) (2 ^ 1074) (bits-value b h) (bits-value c k) t) (pow-pos 1074))
 
-pub bits-lt-back : (b c : ℕ) → b < infBits → c < infBits → T (lt (ofBits binary64 b) (ofBits binary64 c)) → b < c
+bits-lt-back : (b c : ℕ) → b < infBits → c < infBits → T (lt (ofBits binary64 b) (ofBits binary64 c)) → b < c
 bits-lt-back b c h k t =
     units-lt-back b c (lt-of-mul-lt-mul-right (2 ^ 1074) (lt-values (ofBits binary64 b) (ofBits binary64 c) (unitsOf b) (2 ^ 1074) (unitsOf c) (2 ^ 1074) (pow-pos 1074) (pow-pos 1074) (bits-value b h) (bits-value c k) t))
-
--- a finite value is below 2 ^ 1024
-pub units-under : (b : ℕ) → b < infBits → unitsOf b < 2 ^ 2098
-units-under b h =
-    lt-of-lt-of-le (field-top (b / 2 ^ 52) (b % 2 ^ 52) (digits-in b)) (le-trans (mul-le-mul-left (2 ^ 52) (pow-mono (last b h))) (le-of-eq (sym (pow-add 2 52 2046))))
-  where
-    last : (b : ℕ) → b < infBits → b / 2 ^ 52 ≤ 2046
-    last b h = omega arith
 
 -- ---- which patterns are finite, and which are a NaN's
 pub bits-finite : (b : ℕ) → b < infBits → T (finite (ofBits binary64 b))
@@ -208,7 +192,7 @@ bits-no-nan b h = subst (λ (t : Bool). T (not t)) (sym (nanBits-above binary64 
     over b h k = omega arith
 
 -- with either sign
-pub bits-no-nan-sign : (b : ℕ) → b % 2 ^ 63 ≤ infBits → T (not (nanBits binary64 b))
+bits-no-nan-sign : (b : ℕ) → b % 2 ^ 63 ≤ infBits → T (not (nanBits binary64 b))
 bits-no-nan-sign b h = subst (λ (t : Bool). T (not t)) (sym (nanBits-above binary64 b)) (not-T (ltb infBits (b % 2 ^ 63)) (λ (u : T (ltb infBits (b % 2 ^ 63))). not-le-of-lt (ltb→lt infBits (b % 2 ^ 63) u) h))
 
 no-nan-is : (b : ℕ) → T (not (nanBits binary64 b)) → T (not (isNan (ofBits binary64 b)))
@@ -279,7 +263,7 @@ sign-fields s (suc x) t n = go (eqb (suc x) 2047) (eqb t 0) n
     go true false m = absurd m
     go false b m = sign-of-odd 53 s (2 ^ 52 + t) x 1074
 
-pub ofBits-sign : (b : ℕ) → T (not (nanBits binary64 b)) → sign (ofBits binary64 b) ≡ leb (2 ^ 63) b
+ofBits-sign : (b : ℕ) → T (not (nanBits binary64 b)) → sign (ofBits binary64 b) ≡ leb (2 ^ 63) b
 ofBits-sign b n =
     ap sign (ofBits-is b) ∙ sign-fields (leb (2 ^ 63) b) (b % 2 ^ 63 / 2 ^ 52) (b % 2 ^ 52) (subst (λ (v : Float). T (not (isNan v))) (ofBits-is b) (no-nan-is b n))
 
@@ -319,20 +303,6 @@ bare-finite nan h = h
 bare-finite (inf s) h = h
 bare-finite (fin s m e) h = h
 
-pub bare-value : (x : Float) (s : Bool) (a c : ℕ) → HasValue x s a c → HasValue (bare x) false a c
-bare-value nan s a c h = absurd h
-bare-value (inf t) s a c h = absurd h
-bare-value (fin t m e) s a c h = (refl, h .1)
-
--- the value again from its sign and its size
-pub bare-back : (x : Float) → cond (sign x) (neg (bare x)) (bare x) ≡ x
-unfolding neg
-bare-back nan = refl
-bare-back (inf true) = refl
-bare-back (inf false) = refl
-bare-back (fin true m e) = refl
-bare-back (fin false m e) = refl
-
 -- ---- the pattern of a value without a minus sign
 value-no-nan : (x : Float) → T (fits binary64 x) → T (not (isNan x)) → T (not (nanBits binary64 (toBits binary64 x)))
 value-no-nan x F n = subst (λ (t : Bool). T (not t)) (sym (nanBits-is binary64 (toBits binary64 x))) (subst (λ (v : Float). T (not (isNan v))) (sym (ofBits-toBits binary64 x F)) n)
@@ -351,7 +321,7 @@ at-most-inf b e n =
 pub toBits-at-most : (x : Float) → T (fits binary64 x) → T (not (isNan x)) → sign x ≡ false → toBits binary64 x ≤ infBits
 toBits-at-most x F n s = at-most-inf (toBits binary64 x) (sym (toBits-sign-bit x F n) ∙ s) (value-no-nan x F n)
 
-pub ofBits-inf : ofBits binary64 infBits ≡ inf false
+ofBits-inf : ofBits binary64 infBits ≡ inf false
 unfolding ofBits
 ofBits-inf = refl
 
@@ -406,25 +376,10 @@ same-bare (fin false m e) s = refl
 
 -- ---- the order, on the values' side
 module _ (x y : Float) (F : T (fits binary64 x)) (G : T (fits binary64 y)) (f : T (finite x)) (g : T (finite y)) (s : sign x ≡ false) (t : sign y ≡ false) where
-  pub le→toBits : T (le x y) → toBits binary64 x ≤ toBits binary64 y
-  le→toBits h =
-      bits-le-back (toBits binary64 x) (toBits binary64 y) (toBits-finite x F f s) (toBits-finite y G g t)
-      (subst (λ (v : Float). T (le v (ofBits binary64 (toBits binary64 y)))) (sym (ofBits-toBits binary64 x F)) (subst (λ (v : Float). T (le x v)) (sym (ofBits-toBits binary64 y G)) h))
-
   pub lt→toBits : T (lt x y) → toBits binary64 x < toBits binary64 y
   lt→toBits h =
       bits-lt-back (toBits binary64 x) (toBits binary64 y) (toBits-finite x F f s) (toBits-finite y G g t)
       (subst (λ (v : Float). T (lt v (ofBits binary64 (toBits binary64 y)))) (sym (ofBits-toBits binary64 x F)) (subst (λ (v : Float). T (lt x v)) (sym (ofBits-toBits binary64 y G)) h))
-
-  pub toBits→le : toBits binary64 x ≤ toBits binary64 y → T (le x y)
-  toBits→le h =
-      subst (λ (v : Float). T (le x v)) (ofBits-toBits binary64 y G)
-      (subst (λ (v : Float). T (le v (ofBits binary64 (toBits binary64 y)))) (ofBits-toBits binary64 x F) (bits-le (toBits binary64 x) (toBits binary64 y) h (toBits-finite y G g t)))
-
-  pub toBits→lt : toBits binary64 x < toBits binary64 y → T (lt x y)
-  toBits→lt h =
-      subst (λ (v : Float). T (lt x v)) (ofBits-toBits binary64 y G)
-      (subst (λ (v : Float). T (lt v (ofBits binary64 (toBits binary64 y)))) (ofBits-toBits binary64 x F) (bits-lt (toBits binary64 x) (toBits binary64 y) h (toBits-finite y G g t)))
 
 -- what lies between two patterns' values has a pattern between them
 positive-sign : (x : Float) → T (positive x) → sign x ≡ false
@@ -461,54 +416,7 @@ bits-between b c x B h k F l u =
     )
 
 -- ---- k more in the exponent's field is 2 ^ k times the number
-lift : (x k t : ℕ) → fieldUnits (suc x + k) t ≡ fieldUnits (suc x) t * 2 ^ k
-lift x k t = ap (λ (y : ℕ). fieldUnits y t) (suc-add x k) ∙ ap (λ (z : ℕ). (2 ^ 52 + t) * z) (pow-add 2 x k) ∙ sym (mul-assoc (2 ^ 52 + t) (2 ^ x) (2 ^ k))
-
-pub units-shift : (b k : ℕ) → 2 ^ 52 ≤ b → unitsOf (b + k * 2 ^ 52) ≡ unitsOf b * 2 ^ k
-units-shift b k h =
-    ap (λ (t : ℕ). fieldUnits ((b + k * 2 ^ 52) / 2 ^ 52) t) (digits b k)
-    ∙ ap (λ (x : ℕ). fieldUnits x (b % 2 ^ 52)) (field b k h)
-    ∙ lift (b / 2 ^ 52 - 1) k (b % 2 ^ 52)
-    ∙ ap (λ (x : ℕ). fieldUnits x (b % 2 ^ 52) * 2 ^ k) (first b h)
-  where
-    digits : (b k : ℕ) → (b + k * 2 ^ 52) % 2 ^ 52 ≡ b % 2 ^ 52
-    digits b k = omega arith
-
-    field : (b k : ℕ) → 2 ^ 52 ≤ b → (b + k * 2 ^ 52) / 2 ^ 52 ≡ suc (b / 2 ^ 52 - 1) + k
-    field b k h = omega arith
-
-    first : (b : ℕ) → 2 ^ 52 ≤ b → suc (b / 2 ^ 52 - 1) ≡ b / 2 ^ 52
-    first b h = omega arith
-
-pub shift-less : (b k : ℕ) → b + k * 2 ^ 52 < infBits → b < infBits
-shift-less b k u = omega arith
-
-pub shift-up : (b k a c : ℕ) → 2 ^ 52 ≤ b → b + k * 2 ^ 52 < infBits → 0 < c → HasValue (ofBits binary64 b) false a c → HasValue (ofBits binary64 (b + k * 2 ^ 52)) false (a * 2 ^ k) c
-shift-up b k a c h u C v =
-    let e : a * 2 ^ 1074 ≡ unitsOf b * c = value-cross (ofBits binary64 b) false false a c (unitsOf b) (2 ^ 1074) v (bits-value b (shift-less b k u)) in
-    value-same (ofBits binary64 (b + k * 2 ^ 52)) false (unitsOf b * 2 ^ k) (2 ^ 1074) (a * 2 ^ k) c (pow-pos 1074)
-    (mul-right-comm (unitsOf b) (2 ^ k) c ∙ ap (λ (z : ℕ). z * 2 ^ k) (sym e) ∙ mul-right-comm a (2 ^ 1074) (2 ^ k))
-    (subst (λ (n : ℕ). HasValue (ofBits binary64 (b + k * 2 ^ 52)) false n (2 ^ 1074)) (units-shift b k h) (bits-value (b + k * 2 ^ 52) u))
-
-pub shift-down : (b k a c : ℕ) → 2 ^ 52 ≤ b → b + k * 2 ^ 52 < infBits → 0 < c → HasValue (ofBits binary64 (b + k * 2 ^ 52)) false a c → HasValue (ofBits binary64 b) false a (c * 2 ^ k)
-shift-down b k a c h u C v =
-    let e : a * 2 ^ 1074 ≡ unitsOf b * 2 ^ k * c =
-    value-cross (ofBits binary64 (b + k * 2 ^ 52)) false false a c (unitsOf b * 2 ^ k) (2 ^ 1074) v
-    (subst (λ (n : ℕ). HasValue (ofBits binary64 (b + k * 2 ^ 52)) false n (2 ^ 1074)) (units-shift b k h) (bits-value (b + k * 2 ^ 52) u)) in
-    value-same (ofBits binary64 b) false (unitsOf b) (2 ^ 1074) a (c * 2 ^ k) (pow-pos 1074)
-    (ap (λ (z : ℕ). unitsOf b * z) (mul-comm c (2 ^ k)) ∙ sym (mul-assoc (unitsOf b) (2 ^ k) c) ∙ sym e)
-    (bits-value b (shift-less b k u))
-
 -- ---- a binade: with k more than the pattern of 2 ^ E, k steps of 2 ^ (E - 52) more
-pub binade-up : (j k : ℕ) → j < 972 → k < 2 ^ 52 → HasValue (ofBits binary64 ((1075 + j) * 2 ^ 52 + k)) false ((2 ^ 52 + k) * 2 ^ j) 1
-binade-up j k h u =
-    value-same (ofBits binary64 ((1075 + j) * 2 ^ 52 + k)) false (fieldUnits (1075 + j) k) (2 ^ 1074) ((2 ^ 52 + k) * 2 ^ j) 1 (pow-pos 1074)
-    (mul-one (fieldUnits (1075 + j) k) ∙ lift 1074 j k ∙ mul-right-comm (2 ^ 52 + k) (2 ^ 1074) (2 ^ j))
-    (pattern-value (1075 + j) k (in-field j h) u)
-  where
-    in-field : (j : ℕ) → j < 972 → 1075 + j < 2047
-    in-field j h = omega arith
-
 pub binade-down : (j k : ℕ) → j < 1075 → k < 2 ^ 52 → HasValue (ofBits binary64 ((1075 - j) * 2 ^ 52 + k)) false (2 ^ 52 + k) (2 ^ j)
 binade-down j k h u =
     value-same (ofBits binary64 ((1075 - j) * 2 ^ 52 + k)) false (fieldUnits (1075 - j) k) (2 ^ 1074) (2 ^ 52 + k) (2 ^ j) (pow-pos 1074)
@@ -568,84 +476,9 @@ cut-no-nan b h = bits-no-nan-sign (cut b) (less b h)
     less : (b : ℕ) → b % 2 ^ 63 ≤ infBits → (b - b % 2 ^ 27) % 2 ^ 63 ≤ infBits
     less b h = omega arith
 
--- the numbers that stay, and the weight of the last digit of a field
-abbrev pub lead26 : ℕ → ℕ → ℕ
-lead26 zero t = t / 2 ^ 27
-lead26 (suc x) t = 2 ^ 25 + t / 2 ^ 27
-
-pub lead26-lt : (x t : ℕ) → t < 2 ^ 52 → lead26 x t < 2 ^ 26
-lead26-lt zero t h = omega arith
-lead26-lt (suc x) t h = omega arith
-
 back : (x : ℕ) → suc x - 1 ≡ x
 back x = omega arith
-
-keep : (x t : ℕ) → fieldUnits x (t / 2 ^ 27 * 2 ^ 27) ≡ lead26 x t * 2 ^ 27 * 2 ^ (x - 1)
-keep zero t = sym (mul-one (t / 2 ^ 27 * 2 ^ 27))
-keep (suc x) t = ap (λ (n : ℕ). n * 2 ^ x) (lead t) ∙ ap (λ (y : ℕ). (2 ^ 25 + t / 2 ^ 27) * 2 ^ 27 * 2 ^ y) (sym (back x))
-  where
-    lead : (t : ℕ) → 2 ^ 52 + t / 2 ^ 27 * 2 ^ 27 ≡ (2 ^ 25 + t / 2 ^ 27) * 2 ^ 27
-    lead t = omega arith
-
-pub units-cut : (b : ℕ) → unitsOf (cut b) ≡ lead26 (b / 2 ^ 52) (b % 2 ^ 52) * 2 ^ 27 * 2 ^ (b / 2 ^ 52 - 1)
-units-cut b = ap (λ (x : ℕ). fieldUnits x (cut b % 2 ^ 52)) (field b) ∙ ap (fieldUnits (b / 2 ^ 52)) (digits b) ∙ keep (b / 2 ^ 52) (b % 2 ^ 52)
-  where
-    field : (b : ℕ) → (b - b % 2 ^ 27) / 2 ^ 52 ≡ b / 2 ^ 52
-    field b = omega arith
-
-    digits : (b : ℕ) → (b - b % 2 ^ 27) % 2 ^ 52 ≡ b % 2 ^ 52 / 2 ^ 27 * 2 ^ 27
-    digits b = omega arith
 
 more : (x t r : ℕ) → fieldUnits x (t + r) ≡ fieldUnits x t + r * 2 ^ (x - 1)
 more zero t r = ap (λ (n : ℕ). t + n) (sym (mul-one r))
 more (suc x) t r = ap (λ (n : ℕ). n * 2 ^ x) (sym (add-assoc (2 ^ 52) t r)) ∙ add-mul (2 ^ 52 + t) r (2 ^ x) ∙ ap (λ (y : ℕ). (2 ^ 52 + t) * 2 ^ x + r * 2 ^ y) (sym (back x))
-
--- what was cut off
-pub units-rest : (b : ℕ) → unitsOf b ≡ unitsOf (cut b) + b % 2 ^ 27 * 2 ^ (b / 2 ^ 52 - 1)
-units-rest b =
-    ap (fieldUnits (b / 2 ^ 52)) (split b)
-    ∙ more (b / 2 ^ 52) (cut b % 2 ^ 52) (b % 2 ^ 27)
-    ∙ ap (λ (x : ℕ). fieldUnits x (cut b % 2 ^ 52) + b % 2 ^ 27 * 2 ^ (b / 2 ^ 52 - 1)) (field b)
-  where
-    split : (b : ℕ) → b % 2 ^ 52 ≡ (b - b % 2 ^ 27) % 2 ^ 52 + b % 2 ^ 27
-    split b = omega arith
-
-    field : (b : ℕ) → b / 2 ^ 52 ≡ (b - b % 2 ^ 27) / 2 ^ 52
-    field b = omega arith
-
--- it is at most one part in 2 ^ 25 of what stays, for a normal value
-pub cut-near : (b : ℕ) → 2 ^ 52 ≤ b → unitsOf b * 2 ^ 25 ≤ unitsOf (cut b) * (2 ^ 25 + 1)
-cut-near b h = le-trans (le-of-eq (ap (λ (n : ℕ). n * 2 ^ 25) (units-rest b))) (go (unitsOf (cut b)) (b % 2 ^ 27 * 2 ^ (b / 2 ^ 52 - 1)) (le-trans part (le-of-eq (sym (units-cut b)))))
-  where
-    part : b % 2 ^ 27 * 2 ^ (b / 2 ^ 52 - 1) * 2 ^ 25 ≤ lead26 (b / 2 ^ 52) (b % 2 ^ 52) * 2 ^ 27 * 2 ^ (b / 2 ^ 52 - 1)
-    part = le-trans (le-of-eq (mul-right-comm (b % 2 ^ 27) (2 ^ (b / 2 ^ 52 - 1)) (2 ^ 25))) (mul-le-mul-right (2 ^ (b / 2 ^ 52 - 1)) (step (b / 2 ^ 52) b h refl))
-      where
-        small : (b t : ℕ) → b % 2 ^ 27 * 2 ^ 25 ≤ (2 ^ 25 + t) * 2 ^ 27
-        small b t = omega arith
-
-        none : (b : ℕ) → 2 ^ 52 ≤ b → b / 2 ^ 52 ≡ 0 → ⊥
-        none b h e = omega arith
-
-        step : (x b : ℕ) → 2 ^ 52 ≤ b → b / 2 ^ 52 ≡ x → b % 2 ^ 27 * 2 ^ 25 ≤ lead26 x (b % 2 ^ 52) * 2 ^ 27
-        step zero b h e = absurd (none b h e)
-        step (suc x) b h e = small b (b % 2 ^ 52 / 2 ^ 27)
-
-    go : (u r : ℕ) → r * 2 ^ 25 ≤ u → (u + r) * 2 ^ 25 ≤ u * (2 ^ 25 + 1)
-    go u r k = omega arith
-
--- and at most as much as what stays, from 2 ^ 27 smallest values on
-pub cut-half : (b : ℕ) → 2 ^ 27 ≤ b → unitsOf b ≤ 2 * unitsOf (cut b)
-cut-half b h = le-trans (le-of-eq (units-rest b)) (go (unitsOf (cut b)) (b % 2 ^ 27 * 2 ^ (b / 2 ^ 52 - 1)) (le-trans (mul-le-mul-right (2 ^ (b / 2 ^ 52 - 1)) (step (b / 2 ^ 52) b h refl)) (le-of-eq (sym (units-cut b)))))
-  where
-    go : (u r : ℕ) → r ≤ u → u + r ≤ 2 * u
-    go u r k = omega arith
-
-    low : (b : ℕ) → 2 ^ 27 ≤ b → b / 2 ^ 52 ≡ 0 → b % 2 ^ 27 ≤ b % 2 ^ 52 / 2 ^ 27 * 2 ^ 27
-    low b h e = omega arith
-
-    mid : (b t : ℕ) → b % 2 ^ 27 ≤ (2 ^ 25 + t) * 2 ^ 27
-    mid b t = omega arith
-
-    step : (x b : ℕ) → 2 ^ 27 ≤ b → b / 2 ^ 52 ≡ x → b % 2 ^ 27 ≤ lead26 x (b % 2 ^ 52) * 2 ^ 27
-    step zero b h e = low b h e
-    step (suc x) b h e = mid b (b % 2 ^ 52 / 2 ^ 27)

@@ -5,18 +5,18 @@ use mathlib.Core.Path.{_≡_, refl, sym, ap, _∙_, subst}
 use mathlib.Core.Logic.{inl, inr}
 use mathlib.Core.Bool.{Bool, true, false, not, _&&_}
 use Prim.Native.Nat.{ℕ, zero, suc, _+_, _-_, _*_, _^_, _≤_, _<_}
-use native.Mathlib.Nat.{suc-inj, one-mul, mul-mul-mul-comm, zero-lt-suc, sub-le, sub-add-cancel, le-refl, le-trans, le-of-eq, lt-of-lt-of-le, lt-irrefl, le-of-suc-le-suc, not-suc-le-zero, eq-or-lt-of-le, eq-zero-or-pos, mul-one, mul-comm, mul-pos, mul-le-mul, mul-le-mul-left, mul-le-mul-right, le-of-mul-le-mul-right, mul-lt-mul-of-pos-right, lt-of-mul-lt-mul-right}
+use native.Mathlib.Nat.{suc-inj, one-mul, mul-mul-mul-comm, zero-lt-suc, sub-le, le-refl, le-trans, le-of-eq, lt-of-lt-of-le, lt-irrefl, le-of-suc-le-suc, not-suc-le-zero, eq-or-lt-of-le, eq-zero-or-pos, mul-one, mul-comm, mul-pos, mul-le-mul, mul-le-mul-left, mul-le-mul-right, le-of-mul-le-mul-right, mul-lt-mul-of-pos-right, lt-of-mul-lt-mul-right}
 use native.Mathlib.Omega.{arith}
 use lib.IntN.{ℤ}
 use lib.Dec.{T, leb, ltb, eqb, leb→le, ltb→lt, lt→ltb, eqb→eq, lit<, lit≤}
 use lib.Arith.{le→nltb}
 use lib.Pow.{pow-pos, pow-add}
-use lib.Ieee.{Float, nan, inf, fin, Format, binary32, binary64, prec, emax, up, down, round, add, sub, mul, div, le, lt}
+use lib.Ieee.{Float, nan, inf, fin, Format, binary32, binary64, prec, emax, up, down, round, add, mul, div, le, lt}
 use lib.Ieee.Fits.{up-pos, down-pos, and-l, and-r}
 use lib.Ieee.Order.{round-mono, le-of-values}
 use lib.Ieee.Scale.{finite}
 use lib.Ieee.Positive.{num, den, positive, above, above-of-le, le→cross, den-pos, first-pos, through}
-use Rattle.laws.proofs.Relative.{Rat, Normal, largest, nonnegative, nonnegative-finite, nonnegative-value, positive-nonnegative, positive-of-num, round-nonnegative, round-shape, round-below, round-finite, round-close, ones-pos, mul-round, add-round, sub-round, div-round}
+use Rattle.laws.proofs.Relative.{Rat, Normal, largest, nonnegative, nonnegative-finite, nonnegative-value, positive-nonnegative, positive-of-num, round-nonnegative, round-shape, round-below, round-finite, round-close, ones-pos, mul-round, add-round, div-round}
 
 abbrev pub AtLeast : Float → ℕ → ℕ → Type 0
 AtLeast nan a c = ⊥
@@ -101,9 +101,6 @@ lo-bound {z} {a} {c} r t = lo-cross z a c (r .bound) t
 pub lo-positive : {z : Float} {a c : ℕ} → 0 < a → Lo z a c → T (finite z) → T (positive z)
 lo-positive {z} {a} {c} A r t = positive-of-num z (lo-nonnegative r t) (first-pos (num z) c (lt-of-lt-of-le (mul-pos A (den-pos z)) (lo-bound r t)))
 
-pub up-of-rat : {L U D b d : ℕ} (z : Float) → T (nonnegative z) → 0 < D → 0 < d → Rat L U D (num z) (den z) b d → Up z (U * b) (D * d)
-up-of-rat {L} {U} {D} {b} {d} z p P Q r = record { sign = p; over = mul-pos P Q; bound = omega (arith, r .upper) }
-
 pub lo-of-rat : {L U D b d : ℕ} (z : Float) → T (nonnegative z) → 0 < D → 0 < d → Rat L U D (num z) (den z) b d → Lo z (L * b) (D * d)
 lo-of-rat {L} {U} {D} {b} {d} z p P Q r =
     let k : L * b * den z ≤ num z * (D * d) = omega (arith, r .lower) in
@@ -116,7 +113,7 @@ above-positive (inf t) q k = absurd q
 above-positive (fin true n d) q k = k
 above-positive (fin false n d) q k = k
 
-pub nonnegative-cross : (x y : Float) → T (nonnegative x) → T (nonnegative y) → T (le x y) → num x * den y ≤ num y * den x
+nonnegative-cross : (x y : Float) → T (nonnegative x) → T (nonnegative y) → T (le x y) → num x * den y ≤ num y * den x
 nonnegative-cross x y p q h =
     elim (eq-zero-or-pos (num x)) [
       | inl z ↦ zero-case (num x) (den y) (num y * den x) z
@@ -235,7 +232,7 @@ module _ (x y : Float) {a c b d : ℕ} (r : Up x a c) (s : Lo y b d) where
       go x (fin true n e) p k l = absurd l
       go x (fin false n e) p k l = cross-lt x (fin false n e) p tt (below-cross-strict (num x) (n * up e) (den x) (down e) a c b d (den-pos x) (down-pos e) k l h)
 
-  pub up-lo-not : a * d ≤ b * c → T (not (lt y x))
+  up-lo-not : a * d ≤ b * c → T (not (lt y x))
   up-lo-not h = go x y (r .sign) (r .bound) (s .bound)
     where
       go : (x y : Float) → T (nonnegative x) → num x * c ≤ a * den x → AtLeast y b d → T (not (lt y x))
@@ -245,7 +242,7 @@ module _ (x y : Float) {a c b d : ℕ} (r : Up x a c) (s : Lo y b d) where
       go x (fin false n e) p k l = cross-not x (fin false n e) p tt (below-cross (num x) (n * up e) (den x) (down e) a c b d (r .over) (s .over) k l h)
 
 -- ---- rounding: below a fraction whose own rounded value has a bound
-pub round-up : (f : Format) (a c a' c' : ℕ) {p q : ℕ} → 0 < c → 0 < c' → a * c' ≤ a' * c → Up (round f false a' c') p q → Up (round f false a c) p q
+round-up : (f : Format) (a c a' c' : ℕ) {p q : ℕ} → 0 < c → 0 < c' → a * c' ≤ a' * c → Up (round f false a' c') p q → Up (round f false a c) p q
 round-up f a c a' c' C C' l r =
     let h = round-mono f a c a' c' C C' l in
     let t = round-below f a c (round f false a' c') (up-finite r) h in
@@ -293,7 +290,7 @@ slack-pos f q h = mul-pos h (some (2 ^ prec f))
     some P = omega arith
 
 -- what lies one part in 2 ^ prec below p / q rounds to p / q at most
-pub cap : (f : Format) (p q : ℕ) → Range f p q → Up (round f false (p * 2 ^ prec f) (q * (2 ^ prec f + 1))) p q
+cap : (f : Format) (p q : ℕ) → Range f p q → Up (round f false (p * 2 ^ prec f) (q * (2 ^ prec f + 1))) p q
 cap f p q r =
     let P = 2 ^ prec f in
     let z = round f false (p * P) (q * (P + 1)) in
@@ -315,7 +312,7 @@ cancel-gain x d p q P Q h g l =
     le-of-mul-le-mul-right k (mul-pos h g)
 
 -- what lies one part in 2 ^ prec above p / q rounds to p / q at least
-pub floor : (f : Format) (p q : ℕ) → 0 < q → Normal f p q → Lo (round f false (p * 2 ^ prec f) (q * (2 ^ prec f - 1))) p q
+floor : (f : Format) (p q : ℕ) → 0 < q → Normal f p q → Lo (round f false (p * 2 ^ prec f) (q * (2 ^ prec f - 1))) p q
 floor f p q q-pos N =
     let P = 2 ^ prec f in
     let Q = 2 ^ prec f - 1 in
@@ -376,14 +373,14 @@ module _ (f : Format) (a' c' : ℕ) {p q : ℕ} (C' : 0 < c') where
       (round-up f (num x * num y) (den x * den y) a' c' (mul-pos (den-pos x) (den-pos y)) C'
       (mul-cross (num x) (num y) (den x) (den y) a c b d a' c' (r .over) (s .over) (r .bound) (s .bound) l) w)
 
-  pub add-up-at : (x y : Float) {a c b d : ℕ} → Up x a c → Up y b d → (a * d + b * c) * c' ≤ a' * (c * d) → Up (round f false a' c') p q → Up (add f x y) p q
+  add-up-at : (x y : Float) {a c b d : ℕ} → Up x a c → Up y b d → (a * d + b * c) * c' ≤ a' * (c * d) → Up (round f false a' c') p q → Up (add f x y) p q
   add-up-at x y {a} {c} {b} {d} r s l w =
       subst (λ (z : Float). Up z p q) (sym (add-round f x y (r .sign) (s .sign)))
       (round-up f (num x * den y + num y * den x) (den x * den y) a' c' (mul-pos (den-pos x) (den-pos y)) C'
       (add-cross (num x) (num y) (den x) (den y) a c b d a' c' (r .over) (s .over) (r .bound) (s .bound) l) w)
 
   -- the divisor is above zero; where it is an infinity the quotient is zero
-  pub div-up-at : (x y : Float) {a c b d : ℕ} → 0 < b → Up x a c → Lo y b d → a * d * c' ≤ a' * (c * b) → Up (round f false a' c') p q → Up (div f x y) p q
+  div-up-at : (x y : Float) {a c b d : ℕ} → 0 < b → Up x a c → Lo y b d → a * d * c' ≤ a' * (c * b) → Up (round f false a' c') p q → Up (div f x y) p q
   div-up-at x y {a} {c} {b} {d} B r s l w = go y (s .bound)
     where
       go : (y : Float) → AtLeast y b d → Up (div f x y) p q
@@ -502,7 +499,7 @@ module _ (f : Format) (a' c' : ℕ) {p q : ℕ} (A' : 0 < a') (C' : 0 < c') (P' 
           (round-lo f (m * up e * down g + n * up g * down e) (down e * down g) a' c' (mul-pos (down-pos e) (down-pos g)) C' P'
           (add-cross-lo (m * up e) (n * up g) (down e) (down g) a c b d a' c' (r .over) (s .over) h k l) w)
 
-  pub div-lo-at : (x y : Float) {a c b d : ℕ} → 0 < a → Lo x a c → Up y b d → a' * (c * b) ≤ a * d * c' → Lo (round f false a' c') p q → Lo (div f x y) p q
+  div-lo-at : (x y : Float) {a c b d : ℕ} → 0 < a → Lo x a c → Up y b d → a' * (c * b) ≤ a * d * c' → Lo (round f false a' c') p q → Lo (div f x y) p q
   div-lo-at x y {a} {c} {b} {d} A r s l w = go x y (r .bound) (s .sign) (s .bound)
     where
       go : (x y : Float) → AtLeast x a c → T (nonnegative y) → num y * d ≤ b * den y → Lo (div f x y) p q
@@ -542,61 +539,9 @@ module _ (f : Format) (p q : ℕ) {x y : Float} {a c b d : ℕ} where
   add-lo h N l r s =
       add-lo-at f (p * 2 ^ prec f) (q * (2 ^ prec f - 1)) (mul-pos (normal-pos f p q h N) (pow-pos (prec f))) (mul-pos h (ones-pos f)) (normal-pos f p q h N) x y r s l (floor f p q h N)
 
-  pub div-lo : 0 < q → Normal f p q → 0 < a → p * 2 ^ prec f * (c * b) ≤ a * d * (q * (2 ^ prec f - 1)) → Lo x a c → Up y b d → Lo (div f x y) p q
+  div-lo : 0 < q → Normal f p q → 0 < a → p * 2 ^ prec f * (c * b) ≤ a * d * (q * (2 ^ prec f - 1)) → Lo x a c → Up y b d → Lo (div f x y) p q
   div-lo h N A l r s =
       div-lo-at f (p * 2 ^ prec f) (q * (2 ^ prec f - 1)) (mul-pos (normal-pos f p q h N) (pow-pos (prec f))) (mul-pos h (ones-pos f)) (normal-pos f p q h N) x y A r s l (floor f p q h N)
-
--- ---- a difference, of a value and one no larger
-sub-cross : (x y dx dy a c b d a' c' : ℕ) → 0 < c → 0 < d → y * dx ≤ x * dy → x * c ≤ a * dx → b * dy ≤ y * d → (a * d - b * c) * c' ≤ a' * (c * d) → (x * dy - y * dx) * c' ≤ a' * (dx * dy)
-sub-cross x y dx dy a c b d a' c' C D o h k l = go (x * dy - y * dx) (a * d - b * c) (sub-add-cancel o) (at-most (a * d) (b * c)) l
-  where
-    at-most : (u v : ℕ) → u ≤ u - v + v
-    at-most u v = omega arith
-
-    go : (s t : ℕ) → s + y * dx ≡ x * dy → a * d ≤ t + b * c → t * c' ≤ a' * (c * d) → s * c' ≤ a' * (dx * dy)
-    go s t e g l =
-        let i : s * (c * d) ≤ t * (dx * dy) = omega (arith, ap (λ (z : ℕ). z * (c * d)) e, mul-le-mul-right (dx * dy) g, mul-le-mul-right (dy * d) h, mul-le-mul-right (dx * c) k) in
-        let j : s * c' * (c * d) ≤ a' * (dx * dy) * (c * d) = omega (arith, mul-le-mul-right c' i, mul-le-mul-right (dx * dy) l) in
-        le-of-mul-le-mul-right j (mul-pos C D)
-
-sub-cross-lo : (x y dx dy a c b d a' c' : ℕ) → 0 < c → 0 < d → b * c ≤ a * d → a * dx ≤ x * c → y * d ≤ b * dy → a' * (c * d) ≤ (a * d - b * c) * c' → a' * (dx * dy) ≤ (x * dy - y * dx) * c'
-sub-cross-lo x y dx dy a c b d a' c' C D o h k l = go (x * dy - y * dx) (a * d - b * c) (sub-add-cancel o) (at-most (x * dy) (y * dx)) l
-  where
-    at-most : (u v : ℕ) → u ≤ u - v + v
-    at-most u v = omega arith
-
-    go : (s t : ℕ) → t + b * c ≡ a * d → x * dy ≤ s + y * dx → a' * (c * d) ≤ t * c' → a' * (dx * dy) ≤ s * c'
-    go s t e g l =
-        let i : t * (dx * dy) ≤ s * (c * d) = omega (arith, ap (λ (z : ℕ). z * (dx * dy)) e, mul-le-mul-right (c * d) g, mul-le-mul-right (dy * d) h, mul-le-mul-right (dx * c) k) in
-        let j : a' * (dx * dy) * (c * d) ≤ s * c' * (c * d) = omega (arith, mul-le-mul-right c' i, mul-le-mul-right (dx * dy) l) in
-        le-of-mul-le-mul-right j (mul-pos C D)
-
-sub-infinite-l : (f : Format) (y : Float) → T (nonnegative y) → sub f (inf false) y ≡ inf false
-unfolding sub
-sub-infinite-l f nan k = absurd k
-sub-infinite-l f (inf t) k = absurd k
-sub-infinite-l f (fin true n e) k = absurd k
-sub-infinite-l f (fin false n e) k = refl
-
-module _ (f : Format) (p q : ℕ) {x y : Float} {a c b d : ℕ} where
-  pub sub-up : Range f p q → (a * d - b * c) * (q * (2 ^ prec f + 1)) ≤ p * 2 ^ prec f * (c * d) → T (nonnegative y) → num y * den x ≤ num x * den y → Up x a c → Lo y b d → Up (sub f x y) p q
-  sub-up g l Y o r s =
-      subst (λ (z : Float). Up z p q) (sym (sub-round f x y (r .sign) Y o))
-      (round-up f (num x * den y - num y * den x) (den x * den y) (p * 2 ^ prec f) (q * (2 ^ prec f + 1)) (mul-pos (den-pos x) (den-pos y)) (slack-pos f q (g .over))
-      (sub-cross (num x) (num y) (den x) (den y) a c b d (p * 2 ^ prec f) (q * (2 ^ prec f + 1)) (r .over) (s .over) o (r .bound) (lo-bound s (nonnegative-finite y Y)) l) (cap f p q g))
-
-  pub sub-lo : 0 < q → Normal f p q → b * c ≤ a * d → p * 2 ^ prec f * (c * d) ≤ (a * d - b * c) * (q * (2 ^ prec f - 1)) → Lo x a c → Up y b d → Lo (sub f x y) p q
-  sub-lo h N o l r s = go x (r .bound)
-    where
-      go : (x : Float) → AtLeast x a c → Lo (sub f x y) p q
-      go nan k = absurd k
-      go (inf true) k = absurd k
-      go (inf false) k = subst (λ (z : Float). Lo z p q) (sym (sub-infinite-l f y (s .sign))) (infinite p q h)
-      go (fin true m e) k = absurd k
-      go (fin false m e) k =
-          subst (λ (z : Float). Lo z p q) (sym (sub-round f (fin false m e) y tt (s .sign) (below-cross (num y) (m * up e) (den y) (down e) b d a c (s .over) (r .over) (s .bound) k o)))
-          (round-lo f (m * up e * den y - num y * down e) (down e * den y) (p * 2 ^ prec f) (q * (2 ^ prec f - 1)) (mul-pos (down-pos e) (den-pos y)) (mul-pos h (ones-pos f)) (normal-pos f p q h N)
-          (sub-cross-lo (m * up e) (num y) (down e) (den y) a c b d (p * 2 ^ prec f) (q * (2 ^ prec f - 1)) (r .over) (s .over) o k (s .bound) l) (floor f p q h N))
 
 -- ---- an unknown S / W between 2 ^ -r and 2 ^ t
 pub record Span (r t S W : ℕ) : Type 0 where
@@ -691,23 +636,6 @@ up-one {z} {S} {W} r = rw (one-mul S, one-mul W) r
 pub lo-one : {z : Float} {S W : ℕ} → Lo z S W → Lo z (1 * S) (1 * W)
 lo-one {z} {S} {W} r = rw (one-mul S, one-mul W) r
 
--- the same bound with another known part
-pub up-by : {r t S W : ℕ} (k m k' m' : ℕ) {z : Float} → Span r t S W → T (ltb 0 m' && leb (k * m') (k' * m)) → Up z (k * S) (m * W) → Up z (k' * S) (m' * W)
-up-by {S = S} {W = W} k m k' m' s u r =
-    let l = leb→le (k * m') (k' * m) (and-r (ltb 0 m') (leb (k * m') (k' * m)) u) in
-    up-weaken (k' * S) (m' * W) (mul-pos (ltb→lt 0 m' (and-l (ltb 0 m') (leb (k * m') (k' * m)) u)) (s .over)) (cross k m k' m' S W l) r
-  where
-    cross : (k m k' m' S W : ℕ) → k * m' ≤ k' * m → k * S * (m' * W) ≤ k' * S * (m * W)
-    cross k m k' m' S W l = omega (arith, mul-le-mul-right (S * W) l)
-
-pub lo-by : {r t S W : ℕ} (k m k' m' : ℕ) {z : Float} → Span r t S W → T (ltb 0 m' && leb (k' * m) (k * m')) → Lo z (k * S) (m * W) → Lo z (k' * S) (m' * W)
-lo-by {S = S} {W = W} k m k' m' s u r =
-    let l = leb→le (k' * m) (k * m') (and-r (ltb 0 m') (leb (k' * m) (k * m')) u) in
-    lo-weaken (k' * S) (m' * W) (mul-pos (ltb→lt 0 m' (and-l (ltb 0 m') (leb (k' * m) (k * m')) u)) (s .over)) (cross k m k' m' S W l) r
-  where
-    cross : (k m k' m' S W : ℕ) → k' * m ≤ k * m' → k' * S * (m * W) ≤ k * S * (m' * W)
-    cross k m k' m' S W l = omega (arith, mul-le-mul-right (S * W) l)
-
 -- one operand is a known fraction of the unknown, the other is known
 module _ (f : Format) {r t S W : ℕ} (k m k' m' : ℕ) {x y : Float} {b d : ℕ} (s : Span r t S W) where
   pub mul-up-by : T (upTest f r t (k * b) (m * d) k' m') → Up x (k * S) (m * W) → Up y b d → Up (mul f x y) (k' * S) (m' * W)
@@ -716,34 +644,14 @@ module _ (f : Format) {r t S W : ℕ} (k m k' m' : ℕ) {x y : Float} {b d : ℕ
       scale : (A B : ℕ) → k * b * (m' * A) ≤ k' * B * (m * d) → k * S * b * (m' * W * A) ≤ k' * S * B * (m * W * d)
       scale A B l = omega (arith, mul-le-mul-right (S * W) l)
 
-  pub div-up-by : 0 < b → T (upTest f r t (k * d) (m * b) k' m') → Up x (k * S) (m * W) → Lo y b d → Up (div f x y) (k' * S) (m' * W)
-  div-up-by B u g h = let w = up-step f (k * d) (m * b) k' m' s u in div-up f (k' * S) (m' * W) (w .range) B (scale (2 ^ prec f + 1) (2 ^ prec f) (w .slack)) g h
-    where
-      scale : (A B : ℕ) → k * d * (m' * A) ≤ k' * B * (m * b) → k * S * d * (m' * W * A) ≤ k' * S * B * (m * W * b)
-      scale A B l = omega (arith, mul-le-mul-right (S * W) l)
-
   pub mul-lo-by : T (loTest f r (k * b) (m * d) k' m') → Lo x (k * S) (m * W) → Lo y b d → Lo (mul f x y) (k' * S) (m' * W)
   mul-lo-by u g h = let w = lo-step f (k * b) (m * d) k' m' s u in mul-lo f (k' * S) (m' * W) (w .over) (w .normal) (scale (2 ^ prec f - 1) (2 ^ prec f) (w .slack)) g h
     where
       scale : (A B : ℕ) → k' * B * (m * d) ≤ k * b * (m' * A) → k' * S * B * (m * W * d) ≤ k * S * b * (m' * W * A)
       scale A B l = omega (arith, mul-le-mul-right (S * W) l)
 
-  pub div-lo-by : 0 < k → T (loTest f r (k * d) (m * b) k' m') → Lo x (k * S) (m * W) → Up y b d → Lo (div f x y) (k' * S) (m' * W)
-  div-lo-by K u g h =
-      let w = lo-step f (k * d) (m * b) k' m' s u in
-      div-lo f (k' * S) (m' * W) (w .over) (w .normal) (mul-pos K (span-inv s .over)) (scale (2 ^ prec f - 1) (2 ^ prec f) (w .slack)) g h
-    where
-      scale : (A B : ℕ) → k' * B * (m * b) ≤ k * d * (m' * A) → k' * S * B * (m * W * b) ≤ k * S * d * (m' * W * A)
-      scale A B l = omega (arith, mul-le-mul-right (S * W) l)
-
 -- both terms of a sum are known fractions of one unknown
 module _ (f : Format) {r t S W : ℕ} (k m k₂ m₂ k' m' : ℕ) {x y : Float} (s : Span r t S W) where
-  pub add-up-by : T (upTest f r t (k * m₂ + k₂ * m) (m * m₂) k' m') → Up x (k * S) (m * W) → Up y (k₂ * S) (m₂ * W) → Up (add f x y) (k' * S) (m' * W)
-  add-up-by u g h = let w = up-step f (k * m₂ + k₂ * m) (m * m₂) k' m' s u in add-up f (k' * S) (m' * W) (w .range) (scale (2 ^ prec f + 1) (2 ^ prec f) (w .slack)) g h
-    where
-      scale : (A B : ℕ) → (k * m₂ + k₂ * m) * (m' * A) ≤ k' * B * (m * m₂) → (k * S * (m₂ * W) + k₂ * S * (m * W)) * (m' * W * A) ≤ k' * S * B * (m * W * (m₂ * W))
-      scale A B l = omega (arith, mul-le-mul-right (S * W * W) l)
-
   pub add-lo-by : T (loTest f r (k * m₂ + k₂ * m) (m * m₂) k' m') → Lo x (k * S) (m * W) → Lo y (k₂ * S) (m₂ * W) → Lo (add f x y) (k' * S) (m' * W)
   add-lo-by u g h = let w = lo-step f (k * m₂ + k₂ * m) (m * m₂) k' m' s u in add-lo f (k' * S) (m' * W) (w .over) (w .normal) (scale (2 ^ prec f - 1) (2 ^ prec f) (w .slack)) g h
     where
@@ -788,9 +696,6 @@ module _ (f : Format) {r t S W r₂ t₂ S₂ W₂ : ℕ} (k m k₂ m₂ k' m' :
 module _ {r t S W : ℕ} (k m k₂ m₂ : ℕ) {x y : Float} (s : Span r t S W) (g : Up x (k * S) (m * W)) (h : Lo y (k₂ * S) (m₂ * W)) where
   cross-by : k * m₂ ≤ k₂ * m → k * S * (m₂ * W) ≤ k₂ * S * (m * W)
   cross-by l = omega (arith, mul-le-mul-right (S * W) l)
-
-  pub up-lo-le-by : T (leb (k * m₂) (k₂ * m)) → T (le x y)
-  up-lo-le-by u = up-lo-le x y g h (cross-by (leb→le (k * m₂) (k₂ * m) u))
 
   pub up-lo-not-by : T (leb (k * m₂) (k₂ * m)) → T (not (lt y x))
   up-lo-not-by u = up-lo-not x y g h (cross-by (leb→le (k * m₂) (k₂ * m) u))

@@ -8,7 +8,7 @@ use Prim.Native.Nat.{ℕ, zero, suc, _+_, _*_}
 use native.Mathlib.Nat.{mul-pos}
 use mathlib.Core.Bool.{Bool, true, false, not, _&&_, cond}
 use lib.Dec.{T, T-not}
-use lib.Ieee.{Float, nan, inf, fin, Format, binary64, neg, add, sub, mul, div, le, ofBits}
+use lib.Ieee.{Float, nan, inf, fin, Format, neg, add, sub, mul, div, le, ofBits}
 use lib.Ieee.Fits.{and-l, and-r}
 use lib.Ieee.Scale.{finite}
 use lib.Ieee.Positive.{positive, above, above-of-le, den, den-pos}
@@ -117,7 +117,7 @@ add-in f (iv a b) (iv c d) x y p q t =
     let Y = in-finite (iv c d) y q in
     checked-in (add f a c) (add f b d) (add f x y) t (add-mono f a x c y (p .0) X (q .0) Y (p .2) (q .2)) (add-mono f x b y d X (p .1) Y (q .1) (p .3) (q .3))
 
-pub sub-in : (f : Format) (i j : Interval) (x y : Float) → In i x → In j y → T (some (subI f i j)) → In (subI f i j) (sub f x y)
+sub-in : (f : Format) (i j : Interval) (x y : Float) → In i x → In j y → T (some (subI f i j)) → In (subI f i j) (sub f x y)
 unfolding subI
 sub-in f none j x y p q t = absurd p
 sub-in f (iv a b) none x y p q t = absurd q
@@ -126,7 +126,7 @@ sub-in f (iv a b) (iv c d) x y p q t =
     let Y = in-finite (iv c d) y q in
     checked-in (sub f a d) (sub f b c) (sub f x y) t (sub-mono f a x d y (p .0) X (q .1) Y (p .2) (q .3)) (sub-mono f x b y c X (p .1) Y (q .0) (p .3) (q .2))
 
-pub neg-in : (i : Interval) (x : Float) → In i x → In (negI i) (neg x)
+neg-in : (i : Interval) (x : Float) → In i x → In (negI i) (neg x)
 unfolding negI
 neg-in none x p = p
 neg-in (iv a b) x p = (neg-finite b (p .1), neg-finite a (p .0), neg-anti x b (p .3), neg-anti a x (p .2))
@@ -160,7 +160,7 @@ module _ (f : Format) (a b c d x y : Float) (p : In (iv a b) x) (q : In (iv c d)
   Y = in-finite (iv c d) y q
 
   -- a bound of the four corners bounds the product
-  pub corner-low : (m : Float) → T (le m (mul f a c)) → T (le m (mul f a d)) → T (le m (mul f b c)) → T (le m (mul f b d)) → T (le m (mul f x y))
+  corner-low : (m : Float) → T (le m (mul f a c)) → T (le m (mul f a d)) → T (le m (mul f b c)) → T (le m (mul f b d)) → T (le m (mul f x y))
   corner-low m ac ad bc bd = edge-low f x y c d X Y (q .0) (q .1) (q .2) (q .3) m (side c (q .0) ac bc) (side d (q .1) ad bd)
     where
       side : (e : Float) → T (finite e) → T (le m (mul f a e)) → T (le m (mul f b e)) → T (le m (mul f x e))
@@ -168,7 +168,7 @@ module _ (f : Format) (a b c d x y : Float) (p : In (iv a b) x) (q : In (iv c d)
           subst (λ (z : Float). T (le m z)) (mul-comm-float f e x)
           (edge-low f e x a b E X (p .0) (p .1) (p .2) (p .3) m (subst (λ (z : Float). T (le m z)) (mul-comm-float f a e) u) (subst (λ (z : Float). T (le m z)) (mul-comm-float f b e) v))
 
-  pub corner-high : (m : Float) → T (le (mul f a c) m) → T (le (mul f a d) m) → T (le (mul f b c) m) → T (le (mul f b d) m) → T (le (mul f x y) m)
+  corner-high : (m : Float) → T (le (mul f a c) m) → T (le (mul f a d) m) → T (le (mul f b c) m) → T (le (mul f b d) m) → T (le (mul f x y) m)
   corner-high m ac ad bc bd = edge-high f x y c d X Y (q .0) (q .1) (q .2) (q .3) m (side c (q .0) ac bc) (side d (q .1) ad bd)
     where
       side : (e : Float) → T (finite e) → T (le (mul f a e) m) → T (le (mul f b e) m) → T (le (mul f x e) m)
@@ -263,7 +263,7 @@ above-finite (inf s) p a = absurd p
 above-finite (fin true m e) p a = absurd a
 above-finite (fin false m e) p a = a
 
-pub div-in : (f : Format) (i j : Interval) (x y : Float) → In i x → In j y → T (some (divI f i j)) → In (divI f i j) (div f x y)
+div-in : (f : Format) (i j : Interval) (x y : Float) → In i x → In j y → T (some (divI f i j)) → In (divI f i j) (div f x y)
 unfolding divI
 div-in f none j x y p q t = absurd p
 div-in f (iv a b) none x y p q t = absurd q
@@ -395,7 +395,7 @@ lit-in nan t = absurd t
 lit-in (inf s) t = absurd t
 lit-in (fin s m e) t = (tt, tt, le-refl-finite (fin s m e) tt, le-refl-finite (fin s m e) tt)
 
-pub sound : (f : Format) (σ : List Interval) (ρ : List Float) (e : Expr) → Inside σ ρ → T (some (range f σ e)) → In (range f σ e) (eval f ρ e)
+sound : (f : Format) (σ : List Interval) (ρ : List Float) (e : Expr) → Inside σ ρ → T (some (range f σ e)) → In (range f σ e) (eval f ρ e)
 unfolding Strict eval range
 sound f σ ρ (var n) p t = known-in σ ρ n p t
 sound f σ ρ (lit x) p t = lit-in x t
@@ -446,20 +446,3 @@ bounded f σ ρ e lo hi p t = within-in (range f σ e) lo hi (eval f ρ e) t (so
 -- an interval of literals, with its own test
 pub in-literals : (l h z : Float) → T (finite l && finite h) → T (le l z) → T (le z h) → In (iv l h) z
 in-literals l h z t a b = (and-l (finite l) (finite h) t, and-r (finite l) (finite h) t, a, b)
-
--- ---- an example: (x * x + 0.5) * x for x from -1 to 2 is finite, and lies between -4.5 and 9
-example-expr : Expr
-example-expr = product (sum (product (var 0) (var 0)) (lit (ofBits binary64 0x3FE0000000000000))) (var 0)
-
-example-test : T (passes binary64 (iv (neg (ofBits binary64 0x3FF0000000000000)) (ofBits binary64 0x4000000000000000) ∷ []) example-expr (neg (ofBits binary64 0x4012000000000000)) (ofBits binary64 0x4022000000000000))
-unfolding passes example-expr
-example-test = tt
-
-cubic : Float → Float
-cubic x = mul binary64 (add binary64 (mul binary64 x x) (ofBits binary64 0x3FE0000000000000)) x
-
-example : (x : Float) → T (le (neg (ofBits binary64 0x3FF0000000000000)) x) → T (le x (ofBits binary64 0x4000000000000000)) → Between (neg (ofBits binary64 0x4012000000000000)) (ofBits binary64 0x4022000000000000) (cubic x)
-unfolding eval example-expr cubic
-example x a b =
-    bounded binary64 (iv (neg (ofBits binary64 0x3FF0000000000000)) (ofBits binary64 0x4000000000000000) ∷ []) (x ∷ []) example-expr (neg (ofBits binary64 0x4012000000000000)) (ofBits binary64 0x4022000000000000)
-    (in-literals (neg (ofBits binary64 0x3FF0000000000000)) (ofBits binary64 0x4000000000000000) x (unfold ofBits neg in tt) a b, tt) example-test

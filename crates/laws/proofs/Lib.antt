@@ -14,7 +14,6 @@ pub mod Relative
 pub mod Run
 pub mod Seam
 pub mod Sign
-pub mod Sweep
 pub mod Value
 pub mod Whole
 pub mod Zero

@@ -9,13 +9,13 @@ use native.Mathlib.Omega.{arith}
 use mathlib.Core.Bool.{Bool, true, false, _&&_, cond}
 use lib.Dec.{T, leb, leb→le, eqb, eqb→eq, lit<}
 use lib.Pow.{pow-add, pow-pos, pow-mono, pow-lt}
-use lib.Ieee.{Float, nan, inf, fin, Format, binary64, emax, low, up, down, unlike, round, neg, add, sub, mul, div, le, ofBits}
+use lib.Ieee.{Float, nan, inf, fin, Format, emax, low, up, down, unlike, round, neg, add, sub, mul, div, le}
 use lib.Ieee.Fits.{and-l, and-r, two}
 use lib.Ieee.Exact.{HasValue, round-exact}
 use lib.Ieee.Order.{round-mono}
 use lib.Ieee.Scale.{finite}
 use lib.Ieee.Positive.{num, den, den-pos, first-pos, through}
-use Rattle.laws.proofs.Order.{posPart, negPart, nought, le→Le, Le→le, le-trans-float, le-total, le-refl-finite, nonneg, finite-between, neg-anti, neg-finite, round-neg, round-zero, Rounds, plus, less, add-rounds}
+use Rattle.laws.proofs.Order.{posPart, negPart, nought, le→Le, le-trans-float, le-total, le-refl-finite, nonneg, finite-between, neg-anti, neg-finite, round-neg, round-zero, Rounds, plus, less, add-rounds}
 
 unfoldable pub Under : Format → ℕ → Float → Type 0
 Under f n x = num x * 2 ^ low f ≤ 2 ^ n * den x
@@ -91,7 +91,7 @@ pub mag-neg : {f : Format} {n : ℕ} {x : Float} → Mag f n x → Mag f n (neg 
 unfolding Under
 mag-neg {f} {n} {x} p = record { fine = neg-finite x (p .fine); under = rw (num-neg, den-neg) (p .under) }
 
-pub at-least-neg : {f : Format} {n : ℕ} {x : Float} → AtLeast f n x → AtLeast f n (neg x)
+at-least-neg : {f : Format} {n : ℕ} {x : Float} → AtLeast f n x → AtLeast f n (neg x)
 unfolding Over
 at-least-neg {f} {n} {x} p = record { fine = neg-finite x (p .fine); over = rw (num-neg, den-neg) (p .over) }
 
@@ -127,7 +127,7 @@ at-least-plus f n a c C N h Z =
     }
 
 -- ---- any fraction, either sign
-pub mag-round : {f : Format} {n : ℕ} (s : Bool) (a c : ℕ) → 0 < c → a * 2 ^ low f ≤ 2 ^ n * c → n ≤ low f + emax f → Mag f n (round f s a c)
+mag-round : {f : Format} {n : ℕ} (s : Bool) (a c : ℕ) → 0 < c → a * 2 ^ low f ≤ 2 ^ n * c → n ≤ low f + emax f → Mag f n (round f s a c)
 mag-round {f} {n} false a c C h N = mag-plus f n a c C N h
 mag-round {f} {n} true a c C h N = subst (λ (z : Float). Mag f n z) (sym (round-neg f a c)) (mag-neg (mag-plus f n a c C N h))
 
@@ -188,30 +188,12 @@ mul-size X a Y b A B K L P h k r =
     (le-trans (mul-le-mul-right (a * b) r) (le-of-eq (mul-right-comm K L (a * b)))))))
     P
 
-mul-size-low : (X a Y b A B K L : ℕ) → 0 < L → A * a ≤ X * L → B * b ≤ Y * L → K * L ≤ A * B → K * (a * b) ≤ X * Y * L
-mul-size-low X a Y b A B K L P h k r =
-    le-of-mul-le-mul-right
-    (le-trans (le-of-eq (mul-right-comm K (a * b) L))
-    (le-trans (mul-le-mul-right (a * b) r)
-    (le-trans (le-of-eq (mul-mul-mul-comm A B a b))
-    (le-trans (mul-le-mul h k) (le-of-eq (sym (mul-assoc (X * Y) L L ∙ mul-mul-mul-comm X Y L L)))))))
-    P
-
 pub mag-mul : {f : Format} {n m k : ℕ} {x y : Float} → Mag f n x → Mag f m y → n + m ≤ k + low f → k ≤ low f + emax f → Mag f k (mul f x y)
 unfolding Under
 mag-mul {f} {n} {m} {k} {x} {y} p q h K =
     subst (λ (z : Float). Mag f k z) (sym (mul-is f x y (p .fine) (q .fine)))
     (mag-round (unlike (sign x) (sign y)) (num x * num y) (den x * den y) (mul-pos (den-pos x) (den-pos y))
     (mul-size (num x) (den x) (num y) (den y) (2 ^ n) (2 ^ m) (2 ^ k) (2 ^ low f) (pow-pos (low f)) (p .under) (q .under) (power-le n m k (low f) h)) K)
-
-pub at-least-mul : {f : Format} {n m k : ℕ} {x y : Float} → AtLeast f n x → AtLeast f m y → k + low f ≤ n + m → k ≤ low f + emax f → T (finite (mul f x y)) → AtLeast f k (mul f x y)
-unfolding Over
-at-least-mul {f} {n} {m} {k} {x} {y} p q h K t =
-    let e = mul-is f x y (p .fine) (q .fine) in
-    subst (λ (z : Float). AtLeast f k z) (sym e)
-    (at-least-round (unlike (sign x) (sign y)) (num x * num y) (den x * den y) (mul-pos (den-pos x) (den-pos y))
-    (mul-size-low (num x) (den x) (num y) (den y) (2 ^ n) (2 ^ m) (2 ^ k) (2 ^ low f) (pow-pos (low f)) (p .over) (q .over) (power-le k (low f) n m h)) K
-    (subst (λ (z : Float). T (finite z)) e t))
 
 -- ---- the quotient
 div-is : (f : Format) (x y : Float) → T (finite x) → T (finite y) → 0 < num y → div f x y ≡ round f (unlike (sign x) (sign y)) (num x * den y) (num y * den x)
@@ -226,7 +208,7 @@ div-is f (fin s m e) (fin t n d) p q N = go (eqb n 0) (eqb→eq n 0)
     go true h = absurd (lt-irrefl 0 (subst (λ (k : ℕ). 0 < k) (ap (λ (k : ℕ). k * up d) (h tt) ∙ zero-mul (up d)) N))
     go false h = refl
 
-pub at-least-pos : {f : Format} {n : ℕ} {x : Float} → AtLeast f n x → 0 < num x
+at-least-pos : {f : Format} {n : ℕ} {x : Float} → AtLeast f n x → 0 < num x
 unfolding Over
 at-least-pos {f} {n} {x} p = first-pos (num x) (2 ^ low f) (lt-of-lt-of-le (mul-pos (pow-pos n) (den-pos x)) (p .over))
 
@@ -240,15 +222,6 @@ div-size X a Y b A B K L P h k r =
     (le-trans (mul-le-mul-right (Y * a) r) (le-of-eq (mul-right-comm K B (Y * a)))))))
     P
 
-div-size-low : (X a Y b A B K L : ℕ) → 0 < B → 0 < L → A * a ≤ X * L → Y * L ≤ B * b → K * B ≤ A * L → K * (Y * a) ≤ X * b * L
-div-size-low X a Y b A B K L P Q h k r =
-    le-of-mul-le-mul-right
-    (le-trans (le-of-eq (mul-right-comm K (Y * a) B))
-    (le-trans (mul-le-mul-right (Y * a) r)
-    (le-trans (le-of-eq (simp (mul-assoc, mul-comm, mul-left-comm)))
-    (le-trans (mul-le-mul h k) (le-of-eq (simp (mul-assoc, mul-comm, mul-left-comm)))))))
-    P
-
 pub mag-div : {f : Format} {n m k : ℕ} {x y : Float} → Mag f n x → AtLeast f m y → n + low f ≤ k + m → k ≤ low f + emax f → Mag f k (div f x y)
 unfolding Under Over
 mag-div {f} {n} {m} {k} {x} {y} p q h K =
@@ -256,15 +229,6 @@ mag-div {f} {n} {m} {k} {x} {y} p q h K =
     subst (λ (z : Float). Mag f k z) (sym (div-is f x y (p .fine) (q .fine) Y))
     (mag-round (unlike (sign x) (sign y)) (num x * den y) (num y * den x) (mul-pos Y (den-pos x))
     (div-size (num x) (den x) (num y) (den y) (2 ^ n) (2 ^ m) (2 ^ k) (2 ^ low f) (pow-pos m) (p .under) (q .over) (power-le n (low f) k m h)) K)
-
-pub at-least-div : {f : Format} {n m k : ℕ} {x y : Float} → AtLeast f n x → Mag f m y → 0 < num y → k + m ≤ n + low f → k ≤ low f + emax f → T (finite (div f x y)) → AtLeast f k (div f x y)
-unfolding Under Over
-at-least-div {f} {n} {m} {k} {x} {y} p q Y h K t =
-    let e = div-is f x y (p .fine) (q .fine) Y in
-    subst (λ (z : Float). AtLeast f k z) (sym e)
-    (at-least-round (unlike (sign x) (sign y)) (num x * den y) (num y * den x) (mul-pos Y (den-pos x))
-    (div-size-low (num x) (den x) (num y) (den y) (2 ^ n) (2 ^ m) (2 ^ k) (2 ^ low f) (pow-pos m) (pow-pos (low f)) (p .over) (q .under) (power-le k m n (low f) h)) K
-    (subst (λ (z : Float). T (finite z)) e t))
 
 -- ---- the sum and the difference
 add-size : (X a Y b A B K L : ℕ) → X * L ≤ A * a → Y * L ≤ B * b → A + B ≤ K → (X * b + Y * a) * L ≤ K * (a * b)
@@ -307,18 +271,10 @@ pub mag-weaken : {f : Format} {n k : ℕ} {x : Float} → Mag f n x → n ≤ k 
 unfolding Under
 mag-weaken {f} {n} {k} {x} p h = record { fine = p .fine; under = le-trans (p .under) (mul-le-mul-right (den x) (pow-mono h)) }
 
-pub at-least-weaken : {f : Format} {n k : ℕ} {x : Float} → AtLeast f n x → k ≤ n → AtLeast f k x
-unfolding Over
-at-least-weaken {f} {n} {k} {x} p h = record { fine = p .fine; over = le-trans (mul-le-mul-right (den x) (pow-mono h)) (p .over) }
-
 -- ---- by a fraction that the float equals, such as an exact power of two
 pub mag-value : {f : Format} {n : ℕ} {x : Float} (s : Bool) (a c : ℕ) → 0 < c → HasValue x s a c → a * 2 ^ low f ≤ 2 ^ n * c → Mag f n x
 unfolding Under
 mag-value {f} {n} {x} s a c C v h = record { fine = finite-value x s a c v; under = through (num x) a (2 ^ n) (den x) c (2 ^ low f) C (le-of-eq (value-cross x s a c v)) h }
-
-pub at-least-value : {f : Format} {n : ℕ} {x : Float} (s : Bool) (a c : ℕ) → 0 < c → HasValue x s a c → 2 ^ n * c ≤ a * 2 ^ low f → AtLeast f n x
-unfolding Over
-at-least-value {f} {n} {x} s a c C v h = record { fine = finite-value x s a c v; over = through (2 ^ n) a (num x) (2 ^ low f) c (den x) C h (le-of-eq (sym (value-cross x s a c v))) }
 
 -- ---- from the order, and back to it
 mag-under : {f : Format} {n : ℕ} {x h : Float} → T (finite x) → T (le nought x) → T (le x h) → Mag f n h → Mag f n x
@@ -342,9 +298,6 @@ mag-between {f} {n} {l} {x} {h} a b p q =
     let X = finite-between l x h (p .fine) (q .fine) a b in
     elim (le-total nought x (le-refl-finite nought tt) (le-refl-finite x X)) [ inl s ↦ mag-under X s b q | inr s ↦ un-neg (mag-under (neg-finite x X) (zero-neg x s) (neg-anti l x a) (mag-neg p)) ]
 
-pub mag-of-le : {f : Format} {n : ℕ} {b x : Float} → T (le (neg b) x) → T (le x b) → Mag f n b → Mag f n x
-mag-of-le a b p = mag-between a b (mag-neg p) p
-
 pub at-least-of-le : {f : Format} {n : ℕ} {l y : Float} → AtLeast f n l → T (le nought l) → T (le l y) → T (finite y) → AtLeast f n y
 unfolding Over
 at-least-of-le {f} {n} {l} {y} p s h Y =
@@ -353,49 +306,4 @@ at-least-of-le {f} {n} {l} {y} p s h Y =
       over = through (2 ^ n) (num l) (num y) (2 ^ low f) (den l) (den y) (den-pos l) (p .over) (cross l y (p .fine) Y s (le-trans-float nought l y s h) h);
     }
 
-pos-neg : (x : Float) → posPart (neg x) ≡ negPart x
-unfolding neg
-pos-neg nan = refl
-pos-neg (inf s) = refl
-pos-neg (fin false m e) = refl
-pos-neg (fin true m e) = refl
-
-neg-neg-part : (x : Float) → negPart (neg x) ≡ posPart x
-unfolding neg
-neg-neg-part nan = refl
-neg-neg-part (inf s) = refl
-neg-neg-part (fin false m e) = refl
-neg-neg-part (fin true m e) = refl
-
 -- a bound b with 2 ^ n ≤ b, such as the power itself
-module _ {f : Format} {n : ℕ} {x b : Float} (p : Mag f n x) (q : AtLeast f n b) (s : T (le nought b)) where
-  size-le : num x * den b ≤ posPart b * den x
-  unfolding Under Over
-  size-le =
-      subst (λ (z : ℕ). num x * den b ≤ z * den x) (parts b ∙ ap (λ (z : ℕ). posPart b + z) (nonneg b (q .fine) s) ∙ add-zero (posPart b))
-      (through (num x) (2 ^ n) (num b) (den x) (2 ^ low f) (den b) (pow-pos (low f)) (p .under) (q .over))
-
-  pub mag→le : T (le x b)
-  mag→le =
-      Le→le x b (p .fine) (q .fine)
-      (rw (nonneg b (q .fine) s) (rise (posPart x) (den b) (den x) (posPart b * den x) (negPart x * den b) (le-trans (mul-le-mul-right (den b) (pos-le x)) size-le)))
-    where
-      rise : (P d c Q N : ℕ) → P * d ≤ Q → P * d + 0 * c ≤ Q + N
-      rise P d c Q N h = omega arith
-
-  pub mag→ge : T (le (neg b) x)
-  mag→ge =
-      Le→le (neg b) x (neg-finite b (q .fine)) (p .fine)
-      (rw (pos-neg b, neg-neg-part b, den-neg b, nonneg b (q .fine) s) (rise (negPart x) (den b) (den x) (posPart b * den x) (posPart x * den b) (le-trans (mul-le-mul-right (den b) (neg-le x)) size-le)))
-    where
-      rise : (N d c Q P : ℕ) → N * d ≤ Q → 0 * c + N * d ≤ P + Q
-      rise N d c Q P h = omega arith
-
--- ---- an example: for |y| ≤ 2 ^ E ≤ |x|, E unknown, y / x and its square are at most 1 in size, and 1 plus that is at most 2
-example : (E : ℕ) (x y : Float) → AtLeast binary64 E x → Mag binary64 E y
-    → Mag binary64 1075 (add binary64 (ofBits binary64 0x3FF0000000000000) (mul binary64 (div binary64 y x) (div binary64 y x)))
-example E x y p q =
-    let r : Mag binary64 1074 (div binary64 y x) = mag-div q p (omega arith) (omega arith) in
-    let s : Mag binary64 1074 (mul binary64 (div binary64 y x) (div binary64 y x)) = mag-mul r r (omega arith) (omega arith) in
-    let one : Mag binary64 1074 (ofBits binary64 0x3FF0000000000000) = mag-literal (unfold magTest ofBits in tt) in
-    mag-add one s (omega arith) (omega arith) (omega arith)

@@ -458,12 +458,6 @@ mul-comm-float f (fin s m e) (fin t n d) =
     ap (λ (b : Bool). round f b (m * up e * (n * up d)) (down e * down d)) (unlike-comm s t)
     ∙ ap₂ (λ (a c : ℕ). round f (unlike t s) a c) (mul-comm (m * up e) (n * up d)) (mul-comm (down e) (down d))
 
-pub mul-mono : (f : Format) (x x' y y' : Float) → T (finite x) → T (finite x') → T (finite y) → T (finite y') → T (le nought x') → T (le nought y)
-    → T (le x x') → T (le y y') → T (le (mul f x y) (mul f x' y'))
-mul-mono f x x' y y' p p' q q' s t h k =
-    le-trans-float (mul f x y) (mul f x' y) (mul f x' y') (mul-mono-pos f x x' y p p' q t h)
-    (subst₂ (λ (u v : Float). T (le u v)) (mul-comm-float f y x') (mul-comm-float f y' x') (mul-mono-pos f y y' x' q q' p' s k))
-
 -- ---- the quotient by a divisor above zero
 pub div-mono : (f : Format) (x x' y : Float) → T (finite x) → T (finite x') → T (positive y) → T (le x x') → T (le (div f x y) (div f x' y))
 div-mono f x x' y p p' q h =

@@ -4,17 +4,16 @@ use mathlib.Core.Path.{_≡_, refl, sym, ap, _∙_, subst}
 use Prim.Native.Nat.{ℕ, zero, suc, _+_, _-_, _*_, _/_, _%_, _^_, _≤_, _<_}
 use native.Mathlib.Nat.{le-trans, le-of-eq, lt-of-lt-of-le, lt-of-le-of-lt, lt-irrefl, lt-of-not-le, zero-lt-suc, mul-one, one-mul, zero-mul, mul-pos, mul-assoc, mul-comm, mul-left-comm, mul-right-comm, mul-mul-mul-comm, mul-le-mul-right, mul-lt-mul-of-pos-right, lt-of-mul-lt-mul-right, eq-of-mul-eq-mul-right, pow-suc, pow-succ', sub-add-cancel}
 use native.Mathlib.Omega.{arith}
-use mathlib.Core.Bool.{Bool, true, false, not, _&&_}
+use mathlib.Core.Bool.{Bool, true, false, _&&_}
 use lib.IntN.{ℤ, pos, negsuc}
-use lib.Dec.{T, ltb, leb, eqb, eqb→eq, lit<, lit≤}
+use lib.Dec.{T, ltb, leb, eqb, eqb→eq, lit<}
 use lib.Pow.{pow-add, pow-pos, pow-mono}
-use lib.Ieee.{Float, nan, inf, fin, Format, binary64, prec, emax, low, up, down, unlike, round, mul, ofBits, toBits, fits}
-use lib.Ieee.Fits.{up-pos, down-pos, and-l, mul-fits}
-use lib.Ieee.Bits.{ofBits-fits}
+use lib.Ieee.{Float, nan, inf, fin, Format, binary64, prec, emax, low, up, down, unlike, round, mul, toBits, fits}
+use lib.Ieee.Fits.{up-pos, down-pos, and-l}
 use lib.Ieee.Exact.{HasValue, round-exact}
 use lib.Ieee.Scale.{finite, round-same}
 use Rattle.laws.proofs.Value.{sign, bare, value-finite, value-same, value-cross}
-use Rattle.laws.proofs.Bits.{infBits, fieldUnits, unitsOf, bits-value, units-shift, units-le, units-under, shift-less, bare-fits, bare-finite, bare-sign, toBits-finite, toBits-value}
+use Rattle.laws.proofs.Bits.{infBits, fieldUnits, unitsOf, bare-fits, bare-finite, bare-sign, toBits-finite, toBits-value}
 
 -- ---- one number, one value
 even-odd : (m t : ℕ) → m % 2 ≡ 1 → m ≡ 2 * t → ⊥
@@ -105,41 +104,10 @@ mul-value f (fin s' m e) (fin t' n g) s t a c b d C D v w =
     ∙ mul-mul-mul-comm a (down e) b (down g))
 
 -- the product is q * 2 ^ j of the smallest values, with no more digits than the format keeps
-pub mul-exact : (f : Format) (x y : Float) (s t : Bool) (a c b d q j : ℕ) → 0 < c → 0 < d → HasValue x s a c → HasValue y t b d
+mul-exact : (f : Format) (x y : Float) (s t : Bool) (a c b d q j : ℕ) → 0 < c → 0 < d → HasValue x s a c → HasValue y t b d
     → q < 2 ^ prec f → q * 2 ^ j < 2 ^ (low f + suc (emax f)) → a * b * 2 ^ low f ≡ q * 2 ^ j * (c * d) → HasValue (mul f x y) (unlike s t) (a * b) (c * d)
 mul-exact f x y s t a c b d q j C D v w Q J h =
     subst (λ (z : Float). HasValue z (unlike s t) (a * b) (c * d)) (sym (mul-value f x y s t a c b d C D v w)) (round-exact f (unlike s t) (a * b) (c * d) q j (mul-pos C D) Q J h)
-
--- ---- the powers of two by their patterns
-one-units : unitsOf (1023 * 2 ^ 52) ≡ 2 ^ 1074
-one-units = refl
-
-pub power-up : (k : ℕ) → k < 1024 → HasValue (ofBits binary64 ((1023 + k) * 2 ^ 52)) false (2 ^ k) 1
-power-up k h =
-    value-same (ofBits binary64 ((1023 + k) * 2 ^ 52)) false (unitsOf ((1023 + k) * 2 ^ 52)) (2 ^ 1074) (2 ^ k) 1 (pow-pos 1074)
-    (mul-one (unitsOf ((1023 + k) * 2 ^ 52)) ∙ ap unitsOf (apart k) ∙ units-shift (1023 * 2 ^ 52) k (lit≤ tt) ∙ ap (λ (z : ℕ). z * 2 ^ k) one-units ∙ mul-comm (2 ^ 1074) (2 ^ k))
-    (bits-value ((1023 + k) * 2 ^ 52) (in-range k h))
-  where
-    apart : (k : ℕ) → (1023 + k) * 2 ^ 52 ≡ 1023 * 2 ^ 52 + k * 2 ^ 52
-    apart k = omega arith
-
-    in-range : (k : ℕ) → k < 1024 → (1023 + k) * 2 ^ 52 < infBits
-    in-range k h = omega arith
-
-pub power-down : (k : ℕ) → k < 1023 → HasValue (ofBits binary64 ((1023 - k) * 2 ^ 52)) false 1 (2 ^ k)
-power-down k h =
-    value-same (ofBits binary64 ((1023 - k) * 2 ^ 52)) false (unitsOf ((1023 - k) * 2 ^ 52)) (2 ^ 1074) 1 (2 ^ k) (pow-pos 1074)
-    (sym (units-shift ((1023 - k) * 2 ^ 52) k (first k h)) ∙ ap unitsOf (together k h) ∙ one-units ∙ sym (one-mul (2 ^ 1074)))
-    (bits-value ((1023 - k) * 2 ^ 52) (in-range k))
-  where
-    first : (k : ℕ) → k < 1023 → 2 ^ 52 ≤ (1023 - k) * 2 ^ 52
-    first k h = omega arith
-
-    together : (k : ℕ) → k < 1023 → (1023 - k) * 2 ^ 52 + k * 2 ^ 52 ≡ 1023 * 2 ^ 52
-    together k h = omega arith
-
-    in-range : (k : ℕ) → (1023 - k) * 2 ^ 52 < infBits
-    in-range k = omega arith
 
 -- ---- the digits of a finite value: q * 2 ^ j units
 pub record Digits (x : Float) : Type 0 where
@@ -222,27 +190,3 @@ scale-down x y s a c k F C v w normal =
 
     fine : (j k : ℕ) → j < 2046 → 53 + (j - k) ≤ 1074 + 1024
     fine j k h = omega arith
-
--- ---- the same on patterns: the exponent's field takes the power
-pub scale-bits-up : (b k : ℕ) → 2 ^ 52 ≤ b → b + k * 2 ^ 52 < infBits → k < 1024 → mul binary64 (ofBits binary64 b) (ofBits binary64 ((1023 + k) * 2 ^ 52)) ≡ ofBits binary64 (b + k * 2 ^ 52)
-scale-bits-up b k h u K =
-    let x = ofBits binary64 b in
-    let y = ofBits binary64 ((1023 + k) * 2 ^ 52) in
-    unique binary64 (mul binary64 x y) (ofBits binary64 (b + k * 2 ^ 52)) false (unitsOf b * 2 ^ k) (2 ^ 1074) (unitsOf (b + k * 2 ^ 52)) (2 ^ 1074) (pow-pos 1074) (pow-pos 1074)
-    (mul-fits binary64 x y) (ofBits-fits binary64 (b + k * 2 ^ 52))
-    (scale-up x y false (unitsOf b) (2 ^ 1074) k (ofBits-fits binary64 b) (pow-pos 1074) (bits-value b (shift-less b k u)) (power-up k K)
-    (lt-of-lt-of-le (subst (λ (z : ℕ). z < 2 ^ 2098) (units-shift b k h) (units-under (b + k * 2 ^ 52) u)) (le-of-eq (pow-add 2 1024 1074))))
-    (bits-value (b + k * 2 ^ 52) u) (ap (λ (z : ℕ). z * 2 ^ 1074) (sym (units-shift b k h)))
-
-pub scale-bits-down : (b k : ℕ) → 2 ^ 52 ≤ b → b + k * 2 ^ 52 < infBits → k < 1023 → mul binary64 (ofBits binary64 (b + k * 2 ^ 52)) (ofBits binary64 ((1023 - k) * 2 ^ 52)) ≡ ofBits binary64 b
-scale-bits-down b k h u K =
-    let x = ofBits binary64 (b + k * 2 ^ 52) in
-    let y = ofBits binary64 ((1023 - k) * 2 ^ 52) in
-    let e : unitsOf (b + k * 2 ^ 52) ≡ unitsOf b * 2 ^ k = units-shift b k h in
-    unique binary64 (mul binary64 x y) (ofBits binary64 b) false (unitsOf (b + k * 2 ^ 52)) (2 ^ 1074 * 2 ^ k) (unitsOf b) (2 ^ 1074) (mul-pos (pow-pos 1074) (pow-pos k)) (pow-pos 1074)
-    (mul-fits binary64 x y) (ofBits-fits binary64 b)
-    (scale-down x y false (unitsOf (b + k * 2 ^ 52)) (2 ^ 1074) k (ofBits-fits binary64 (b + k * 2 ^ 52)) (pow-pos 1074) (bits-value (b + k * 2 ^ 52) u) (power-down k K)
-    (le-trans (le-of-eq (ap (λ (z : ℕ). z * 2 ^ k) (pow-add 2 52 1022) ∙ mul-right-comm (2 ^ 52) (2 ^ 1022) (2 ^ k)))
-    (mul-le-mul-right (2 ^ 1022) (le-trans (mul-le-mul-right (2 ^ k) (units-le (2 ^ 52) b h)) (le-of-eq (sym e))))))
-    (bits-value b (shift-less b k u))
-    (ap (λ (z : ℕ). z * 2 ^ 1074) e ∙ mul-assoc (unitsOf b) (2 ^ k) (2 ^ 1074) ∙ ap (λ (z : ℕ). unitsOf b * z) (mul-comm (2 ^ k) (2 ^ 1074)))

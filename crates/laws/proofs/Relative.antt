@@ -59,26 +59,6 @@ rat-weaken {L} {U} {D} {L'} {U'} {D'} {a} {c} {b} {d} p l u r = record {
       le-of-mul-le-mul-right hi p;
 }
 
--- the same statement about b / d over a / c
-pub rat-swap : {L U D a c b d : ℕ} → Rat L U D a c b d → Rat (D * L) (D * U) (L * U) b d a c
-rat-swap {L} {U} {D} {a} {c} {b} {d} r = record {
-  lower = omega (arith, mul-le-mul-right L (r .upper));
-  upper = omega (arith, mul-le-mul-right U (r .lower));
-}
-
--- the reciprocals
-pub rat-inv : {L U D a c b d : ℕ} → Rat L U D a c b d → Rat (D * L) (D * U) (L * U) c a d b
-rat-inv {L} {U} {D} {a} {c} {b} {d} r = record {
-  lower = omega (arith, mul-le-mul-right L (r .upper));
-  upper = omega (arith, mul-le-mul-right U (r .lower));
-}
-
-pub rat-div : {L U D a c b d L' U' D' a' c' b' d' : ℕ} → Rat L U D a c b d → Rat L' U' D' a' c' b' d' → Rat (L * (D' * L')) (U * (D' * U')) (D * (L' * U')) (a * c') (c * a') (b * d') (d * b')
-rat-div r s = rat-mul r (rat-inv s)
-
-div-cross : {L U D a c b d L' U' D' a' c' b' d' : ℕ} → Rat L U D a c b d → Rat L' U' D' a' c' b' d' → Rat (L * (D' * L')) (U * (D' * U')) (D * (L' * U')) (a * c') (a' * c) (b * d') (b' * d)
-div-cross {c = c} {d = d} {a' = a'} {b' = b'} r s = rw (mul-comm a' c, mul-comm b' d) (rat-div r s)
-
 -- the sums of two pairs with the same bounds
 pub rat-add : {L U D a c b d a' c' b' d' : ℕ} → Rat L U D a c b d → Rat L U D a' c' b' d' → Rat L U D (a * c' + a' * c) (c * c') (b * d' + b' * d) (d * d')
 rat-add {L} {U} {D} {a} {c} {b} {d} {a'} {c'} {b'} {d'} r s = record {
@@ -160,7 +140,7 @@ low-is : (f : Format) → prec f - 1 + (emax f - 1) ≡ low f
 low-is binary32 = refl
 low-is binary64 = refl
 
-pub normal-digits : (f : Format) (a c : ℕ) → 0 < c → Normal f a c → prec f ≤ size (a * 2 ^ low f / c)
+normal-digits : (f : Format) (a c : ℕ) → 0 < c → Normal f a c → prec f ≤ size (a * 2 ^ low f / c)
 normal-digits f a c C h =
     normal-of-fraction f a c C
     (le-trans (mul-le-mul-left (2 ^ (prec f - 1)) h)
@@ -213,7 +193,7 @@ unfolding round
 top binary32 = tt
 top binary64 = tt
 
-pub round-value : (f : Format) (a c : ℕ) (z : Float) → z ≡ round f false a c → T (finite z) → HasValue z false (grid f a c) (2 ^ low f)
+round-value : (f : Format) (a c : ℕ) (z : Float) → z ≡ round f false a c → T (finite z) → HasValue z false (grid f a c) (2 ^ low f)
 round-value f a c z e t = subst (λ (x : Float). HasValue x false (grid f a c) (2 ^ low f)) (sym e) (round-val f a c (round-under f a c (subst (λ (x : Float). T (finite x)) e t)))
 
 pub round-nonnegative : (f : Format) (a c : ℕ) (z : Float) → z ≡ round f false a c → T (finite z) → T (nonnegative z)
@@ -280,7 +260,7 @@ rat-of-units P Q a c l q k x d p e h = record {
 abbrev pub Close : Format → ℕ → ℕ → ℕ → ℕ → Type 0
 Close f a c b d = Rat (2 ^ prec f - 1) (2 ^ prec f + 1) (2 ^ prec f) a c b d
 
-pub round-near : (f : Format) (a c : ℕ) (z : Float) → 0 < c → prec f ≤ size (a * 2 ^ low f / c) → z ≡ round f false a c → T (finite z) → Close f (num z) (den z) a c
+round-near : (f : Format) (a c : ℕ) (z : Float) → 0 < c → prec f ≤ size (a * 2 ^ low f / c) → z ≡ round f false a c → T (finite z) → Close f (num z) (den z) a c
 round-near f a c z C N e t =
     let n = a * 2 ^ low f in
     let k = drop (prec f) n c in
@@ -407,9 +387,6 @@ module _ (f : Format) (x y : Float) (p : T (positive x)) (q : T (positive y)) wh
   pub div-close : Normal f (num x * den y) (num y * den x) → T (finite (div f x y)) → T (positive (div f x y)) × Close f (num (div f x y)) (den (div f x y)) (num x * den y) (num y * den x)
   div-close N t = rounded f (num x * den y) (num y * den x) (div f x y) cross div-eq N t
 
-  pub sub-close : num y * den x ≤ num x * den y → Normal f (num x * den y - num y * den x) (den x * den y) → T (finite (sub f x y)) → T (positive (sub f x y)) × Close f (num (sub f x y)) (den (sub f x y)) (num x * den y - num y * den x) (den x * den y)
-  sub-close h N t = rounded f (num x * den y - num y * den x) (den x * den y) (sub f x y) dens (sub-round f x y (positive-nonnegative x p) (positive-nonnegative y q) h) N t
-
 -- ---- the range, from a fraction b / d that a / c is close to
 pub normal-of-rat : (f : Format) {L U D a c b d : ℕ} → 0 < D → 0 < d → Rat L U D a c b d → D * d ≤ L * b * 2 ^ (emax f - 1) → Normal f a c
 normal-of-rat f {L} {U} {D} {a} {c} {b} {d} P Q r h =
@@ -417,51 +394,7 @@ normal-of-rat f {L} {U} {D} {a} {c} {b} {d} P Q r h =
     let k : c * (D * d) ≤ a * E * (D * d) = omega (arith, mul-le-mul-right c h, mul-le-mul-right E (r .lower)) in
     le-of-mul-le-mul-right k (mul-pos P Q)
 
-pub under-of-rat : (f : Format) {L U D a c b d : ℕ} → 0 < D → 0 < d → Rat L U D a c b d → U * b ≤ largest f * (D * d) → a ≤ largest f * c
-under-of-rat f {L} {U} {D} {a} {c} {b} {d} P Q r h =
-    let E = largest f in
-    let k : a * (D * d) ≤ E * c * (D * d) = omega (arith, mul-le-mul-right c h, r .upper) in
-    le-of-mul-le-mul-right k (mul-pos P Q)
-
--- ---- a chain of operations: operands that are close to known fractions. The conditions are about the operands' own fractions: `normal-of-rat` and `under-of-rat` of `rat-mul r s`, `rat-div r s` or `rat-add r s` give them
-module _ (f : Format) (x y : Float) (p : T (positive x)) (q : T (positive y)) {L U D a c L' U' D' b d : ℕ} (r : Rat L U D (num x) (den x) a c) (s : Rat L' U' D' (num y) (den y) b d) where
-  pub mul-rat : Normal f (num x * num y) (den x * den y) → T (finite (mul f x y))
-      → Rat ((2 ^ prec f - 1) * (L * L')) ((2 ^ prec f + 1) * (U * U')) (2 ^ prec f * (D * D')) (num (mul f x y)) (den (mul f x y)) (a * b) (c * d)
-  mul-rat N t = rat-trans (mul-pos (den-pos x) (den-pos y)) (mul-close f x y p q N t .1) (rat-mul r s)
-
-  pub div-rat : Normal f (num x * den y) (num y * den x) → T (finite (div f x y))
-      → Rat ((2 ^ prec f - 1) * (L * (D' * L'))) ((2 ^ prec f + 1) * (U * (D' * U'))) (2 ^ prec f * (D * (L' * U'))) (num (div f x y)) (den (div f x y)) (a * d) (b * c)
-  div-rat N t = rat-trans (mul-pos (positive-num y q) (den-pos x)) (div-close f x y p q N t .1) (div-cross r s)
-
-pub add-rat : (f : Format) (x y : Float) → T (positive x) → T (positive y) → {L U D a c b d : ℕ} → Rat L U D (num x) (den x) a c → Rat L U D (num y) (den y) b d
-    → Normal f (num x * den y + num y * den x) (den x * den y) → T (finite (add f x y))
-    → Rat ((2 ^ prec f - 1) * L) ((2 ^ prec f + 1) * U) (2 ^ prec f * D) (num (add f x y)) (den (add f x y)) (a * d + b * c) (c * d)
-add-rat f x y p q r s N t = rat-trans (mul-pos (den-pos x) (den-pos y)) (add-close f x y p q N t .1) (rat-add r s)
-
 -- ---- the absolute error: half a unit of the last digit
-pub near-swap : {t s a c b d : ℕ} → Near t s a c b d → Near t s b d a c
-near-swap r = record { above = omega (arith, r .below); below = omega (arith, r .above) }
-
-pub near-trans : {t t' s a c b d g h : ℕ} → 0 < d → Near t s a c b d → Near t' s b d g h → Near (t + t') s a c g h
-near-trans {t} {t'} {s} {a} {c} {b} {d} {g} {h} p r w = record {
-  above =
-      let k : a * h * s * d ≤ (g * c * s + (t + t') * (c * h)) * d = omega (arith, mul-le-mul-right h (r .above), mul-le-mul-right c (w .above)) in
-      le-of-mul-le-mul-right k p;
-  below =
-      let k : g * c * s * d ≤ (a * h * s + (t + t') * (c * h)) * d = omega (arith, mul-le-mul-right h (r .below), mul-le-mul-right c (w .below)) in
-      le-of-mul-le-mul-right k p;
-}
-
-pub near-weaken : {t s t' s' a c b d : ℕ} → 0 < s → t * s' ≤ t' * s → Near t s a c b d → Near t' s' a c b d
-near-weaken {t} {s} {t'} {s'} {a} {c} {b} {d} p l r = record {
-  above =
-      let k : a * d * s' * s ≤ (b * c * s' + t' * (c * d)) * s = omega (arith, mul-le-mul-right s' (r .above), mul-le-mul-right (c * d) l) in
-      le-of-mul-le-mul-right k p;
-  below =
-      let k : b * c * s' * s ≤ (a * d * s' + t' * (c * d)) * s = omega (arith, mul-le-mul-right s' (r .below), mul-le-mul-right (c * d) l) in
-      le-of-mul-le-mul-right k p;
-}
-
 -- a whole number of units that the fraction is: nothing is rounded
 pub closest-exact : (q u : ℕ) → 0 < u → closest (q * u) u ≡ q
 closest-exact q u p =

@@ -20,7 +20,7 @@ use lib.Ieee.Positive.{positive, positive-finite}
 use Rattle.laws.proofs.Value.{sign, value-finite}
 use Rattle.laws.proofs.Bits.{infBits, bits-le, toBits-finite}
 use Rattle.laws.proofs.Interval.{iv, In, Expr, var, lit, sum, difference, product, share, opposite, eval, passes, Between, bounded, in-literals}
-use Rattle.logarithm.specs.Tables.{reciprocals, excesses, logarithmsHigh, logarithmsLow}
+use Rattle.logarithm_tables.specs.Tables.{reciprocals, excesses, logarithmsHigh, logarithmsLow}
 use Rattle.logarithm.specs.Ln.{lnOf, lnBits, lnNarrow, lnWide, joined, tailOf}
 use Rattle.logarithm.proofs.Width.{shifted, mantissa-low, mantissa-high, middle-low, middle-high, field-high}
 use Rattle.logarithm.proofs.Cases.{of-positive}

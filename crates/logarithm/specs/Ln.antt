@@ -1,4 +1,5 @@
--- The natural logarithm, by its bits and the tables. Definitions only.
+-- The natural logarithm, by its bits and the tables: x = 2^e m, ln x = e ln 2 - ln c + ln(1 + r) with c near 1/m. Own design, after the
+-- table method: the scope leaves the formula open. DLMF 4.6.1 for the series. Definitions only.
 use Prim.Native.Nat.{ℕ, zero, suc, _+_, _-_, _*_, _/_, _%_, _^_}
 use mathlib.Core.Bool.{true, false, cond}
 use lib.Dec.{ltb}
@@ -6,7 +7,7 @@ use lib.IntN.{pos}
 use lib.ListN.{getD}
 use lib.Count.{leadingZeros}
 use lib.Ieee.{Float, nan, inf, fin, binary64, ofBits, toBits, ofInt, neg, add, sub, mul}
-use Rattle.logarithm.specs.Tables.{reciprocals, excesses, logarithmsHigh, logarithmsLow}
+use Rattle.logarithm_tables.specs.Tables.{reciprocals, excesses, logarithmsHigh, logarithmsLow}
 
 -- ln 2 in two parts, 0.6931471805598903 and 5.497923018708371e-14
 abbrev pub ln2High : Float

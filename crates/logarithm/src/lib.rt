@@ -1,3 +1,2 @@
 // The natural logarithm.
 pub mod ln;
-pub mod tables;

@@ -1,10 +1,10 @@
-// The natural logarithm of any f64. Own design: a mantissa near 1 + j/128 times a short reciprocal c of that is 1 + r with r exact,
-// and ln x = e ln 2 - ln c + ln(1 + r), the first two from tables in two parts, the last by a polynomial.
-// Promised for every f64: the definition in specs/Ln.antt; finite above zero. Measured error at most 0.526 units in the last place, just below 1 - 1/512.
+// The natural logarithm of any f64. Own design: a mantissa near 1 + j/128 times a short reciprocal c of that is 1 + r with r exact, and ln
+// x = e ln 2 - ln c + ln(1 + r), the first two from tables in two parts, the last by a polynomial. Promised for every f64: the definition
+// in specs/Ln.antt; finite above zero. Measured error at most 0.526 units in the last place, just below 1 - 1/512.
 ghost use mathlib.Core.Path.{_≡_};
 ghost use Prim.Native.Nat.{_<_};
 ghost use Rattle.logarithm.specs.Ln.{lnOf, lnWide, lnNarrow};
-use crate::tables::row_of;
+use logarithm_tables::tables::row_of;
 use machine::constants::not_a_number;
 
 // ln 2 in two parts: e times the first, and a logarithm of the table added, are exact

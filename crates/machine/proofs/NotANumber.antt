@@ -1,8 +1,8 @@
 -- A value that equals itself is no not-a-number, and a pattern's magnitude says whether it is one's: at most 7FF0000000000000, or above. Assumes nothing.
-use mathlib.Core.Path.{_≡_, refl, sym, ap, _∙_, subst}
+use mathlib.Core.Path.{_≡_, refl, sym, _∙_, subst}
 use mathlib.Core.Bool.{Bool, true, false, not}
 use Prim.Native.Nat.{ℕ, _%_, _≤_, _<_}
-use lib.Dec.{T, ltb, lt→ltb}
+use lib.Dec.{T}
 use borrow.Author.Tests.{le-ltb, lt-ltb}
 use lib.Ieee.{Float, nan, inf, fin, binary64, ne, isNan, nanBits, ofBits}
 use lib.Ieee.Bits.{nanBits-is, nanBits-above}

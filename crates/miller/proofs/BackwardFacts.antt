@@ -38,7 +38,7 @@ real-count : (x distance : Float) (s : RealSteps) → realStep x distance s .ste
 unfolding realStep
 real-count x distance s = refl
 
-pub real-after : (x distance : Float) (start n : ℕ) → iterate n (realStep x distance) (realFirst start) .steps ≡ n
+real-after : (x distance : Float) (start n : ℕ) → iterate n (realStep x distance) (realFirst start) .steps ≡ n
 unfolding realFirst
 real-after x distance start n = counted (λ (s : RealSteps). s .steps) (realStep x distance) (real-count x distance) (realFirst start) refl n
 
@@ -50,7 +50,7 @@ complex-count : (z : Complex) (distance : Float) (s : ComplexSteps) → complexS
 unfolding complexStep
 complex-count z distance s = refl
 
-pub complex-after : (z : Complex) (distance : Float) (start n : ℕ) → iterate n (complexStep z distance) (complexFirst start) .steps ≡ n
+complex-after : (z : Complex) (distance : Float) (start n : ℕ) → iterate n (complexStep z distance) (complexFirst start) .steps ≡ n
 unfolding complexFirst
 complex-after z distance start n = counted (λ (s : ComplexSteps). s .steps) (complexStep z distance) (complex-count z distance) (complexFirst start) refl n
 

@@ -19,9 +19,10 @@ use Rattle.miller.specs.declared.search.Start.{Start}
 use Rattle.miller.specs.declared.search.Start.the-variants.{At, Unmet}
 use Rattle.miller.specs.declared.seeds.MillerSeeds.{MillerSeeds}
 use Rattle.miller.specs.declared.seeds.MillerSeeds.the-variants.{Pair, Refused}
+use Rattle.machine.specs.Small.{one}
 use Rattle.miller.specs.Whole.{truncated}
 use Rattle.miller.specs.Point.{isReal}
-use Rattle.miller.specs.Trials.{one, metAfter, trialsTaken, trialIndex}
+use Rattle.miller.specs.Trials.{metAfter, trialsTaken, trialIndex}
 use Rattle.miller.specs.Search.{isStart, startFrom, threshold, rawStart, corrected, convergenceTest, byRecurrence, formulaOf, startOf}
 use Rattle.miller.specs.Seeds.{realSeeds, complexSeeds, seedsFrom, seedsAt, seedsOf}
 use Rattle.miller.proofs.BackwardFacts.{real-steps-are-the-start, complex-steps-are-the-start}
@@ -105,7 +106,7 @@ module _ (modulus square test : Float) where
       r .before i l (omega arith)
 
 -- ---- the backward steps of an answer are its start, so at most 256; no start is refusal 6
-pub backward-is-start : (point : Point) (order : Order) (coefficient : Complex) (alone : Bool) (start : ℕ) → seedsFrom point order coefficient alone start .backward ≡ start
+backward-is-start : (point : Point) (order : Order) (coefficient : Complex) (alone : Bool) (start : ℕ) → seedsFrom point order coefficient alone start .backward ≡ start
 unfolding seedsFrom realSeeds complexSeeds
 backward-is-start point order coefficient alone start = go (isReal (point .z))
   where

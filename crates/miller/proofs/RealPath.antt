@@ -1,5 +1,5 @@
 -- A zero imaginary part, of either sign, takes the real path: both signs give one outcome, whose seeds lie on the real line. Assumes nothing.
-use mathlib.Core.Path.{_≡_, refl, sym, ap, _∙_}
+use mathlib.Core.Path.{_≡_, refl, ap, _∙_}
 use mathlib.Core.Bool.{Bool, true, false, _||_, Bool·beq}
 use Prim.Native.Nat.{ℕ}
 use native.Mathlib.Nat.{zero-mul}
@@ -10,7 +10,6 @@ use Rattle.miller.specs.declared.point.Point.{Point}
 use Rattle.miller.specs.declared.point.Order.{Order}
 use Rattle.miller.specs.declared.search.Start.{Start}
 use Rattle.miller.specs.declared.search.Start.the-variants.{At, Unmet}
-use Rattle.roots.specs.Sqrt.{sqrtOf}
 use Rattle.miller.specs.Point.{isReal, pointOf}
 use Rattle.miller.specs.Search.{startFrom, rawStart, corrected, convergenceTest, byRecurrence, curveOf, precisionOf, formulaOf, startOf}
 use Rattle.miller.specs.Backward.{onRealLine}
@@ -70,24 +69,11 @@ module _ (p q : Point) (P : isReal (p .z) ≡ true) (Q : isReal (q .z) ≡ true)
     real-same = ap (seedsAt p order coefficient alone) (start-same order) ∙ at-same (startOf q order)
 
 -- ---- an argument on the real path
-realPoint : Complex → Point
-realPoint z = record { z = z; modulus = z .re; root = sqrtOf (z .re); angle = ofBits binary64 0 }
-
-point-real : (z : Complex) → isReal z ≡ true → pointOf z ≡ realPoint z
-unfolding pointOf realPoint
-point-real z e = simp e
-
 pub either-zero : (x : Float) (s t : Bool) (e d : ℤ) (order : Order) (coefficient : Complex) (alone : Bool)
     → seedsOf (pointOf (withZero x s e)) order coefficient alone ≡ seedsOf (pointOf (withZero x t d)) order coefficient alone
-unfolding realPoint
+unfolding pointOf
 either-zero x s t e d order coefficient alone =
-    let z = withZero x s e in
-    let w = withZero x t d in
-    let Z = zero-is-real x s e in
-    let W = zero-is-real x t d in
-    ap (λ (p : Point). seedsOf p order coefficient alone) (point-real z Z)
-    ∙ real-same (realPoint z) (realPoint w) Z W refl refl refl order coefficient alone
-    ∙ ap (λ (p : Point). seedsOf p order coefficient alone) (sym (point-real w W))
+    real-same (pointOf (withZero x s e)) (pointOf (withZero x t d)) (zero-is-real x s e) (zero-is-real x t d) refl refl refl order coefficient alone
 
 -- both seeds have an imaginary part of +0
 pub on-the-line : (point : Point) (order : Order) (coefficient : Complex) (alone : Bool) (start : ℕ) → isReal (point .z) ≡ true

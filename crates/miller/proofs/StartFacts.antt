@@ -14,7 +14,7 @@ use Rattle.laws.proofs.Order.{not-lt→le, le→Le}
 use Rattle.miller.specs.declared.search.Start.{Start}
 use Rattle.miller.specs.declared.search.Start.the-variants.{At, Unmet}
 use Rattle.miller.specs.Whole.{truncated}
-use Rattle.miller.specs.Trials.{one}
+use Rattle.machine.specs.Small.{one}
 use Rattle.miller.specs.Search.{isStart, startFrom}
 
 -- 257

@@ -16,7 +16,7 @@ use Rattle.laws.proofs.Bits.{fieldUnits, unitsOf, field-top, field-bottom, toBi
 use Rattle.miller.specs.Whole.{truncated}
 
 -- ---- in units of 2 ^ -1074
-pub truncated-units : (x : Float) → T (fits binary64 x) → T (finite x) → truncated x ≡ unitsOf (toBits binary64 x % 2 ^ 63) / 2 ^ 1074
+truncated-units : (x : Float) → T (fits binary64 x) → T (finite x) → truncated x ≡ unitsOf (toBits binary64 x % 2 ^ 63) / 2 ^ 1074
 unfolding truncated
 truncated-units nan F f = absurd f
 truncated-units (inf s) F f = absurd f
@@ -28,13 +28,13 @@ truncated-units (fin s m e) F f =
     ∙ ap (λ (b : ℕ). unitsOf b / 2 ^ 1074) (sym (toBits-bare x F (finite-no-nan x tt)))
 
 -- ---- the fields x and t: below that of 1 the whole part is 0, from there on the digits behind the point are shifted out
-pub below-one : (x t : ℕ) → x < 1023 → t < 2 ^ 52 → fieldUnits x t / 2 ^ 1074 ≡ 0
+below-one : (x t : ℕ) → x < 1023 → t < 2 ^ 52 → fieldUnits x t / 2 ^ 1074 ≡ 0
 below-one x t h k = div-eq-of-lt (lt-of-lt-of-le (field-top x t k) (subst (λ (n : ℕ). n ≤ 2 ^ 1074) (pow-add 2 52 x) (pow-mono (up-to x h))))
   where
     up-to : (x : ℕ) → x < 1023 → 52 + x ≤ 1074
     up-to x h = omega arith
 
-pub from-one : (x t : ℕ) → 1023 ≤ x → x ≤ 1075 → fieldUnits x t / 2 ^ 1074 ≡ (2 ^ 52 + t) / 2 ^ (1075 - x)
+from-one : (x t : ℕ) → 1023 ≤ x → x ≤ 1075 → fieldUnits x t / 2 ^ 1074 ≡ (2 ^ 52 + t) / 2 ^ (1075 - x)
 from-one zero t h k = absurd (none h)
   where
     none : 1023 ≤ 0 → ⊥
@@ -47,7 +47,7 @@ from-one (suc x) t h k =
     join x k = omega arith
 
 -- a whole part up to 256 has a field far below 1075
-pub small-field : (x t : ℕ) → fieldUnits x t / 2 ^ 1074 ≤ 256 → x ≤ 1075
+small-field : (x t : ℕ) → fieldUnits x t / 2 ^ 1074 ≤ 256 → x ≤ 1075
 small-field zero t h = omega arith
 small-field (suc x) t h = lt-of-not-le (λ (g : 1075 ≤ x). not-le-of-lt (top (fieldUnits (suc x) t) h) (le-trans (many x g) (field-bottom x t)))
   where
@@ -64,7 +64,7 @@ small-field (suc x) t h = lt-of-not-le (λ (g : 1075 ≤ x). not-le-of-lt (top (
     many x g = mul-le-mul-left (2 ^ 52) (pow-mono (under x g))
 
 -- ---- a pattern u of x, as the code takes it apart
-pub by-fields : (x : Float) (u : ℕ) → T (fits binary64 x) → T (finite x) → u ≡ toBits binary64 x → truncated x ≡ fieldUnits (u % 2 ^ 63 / 2 ^ 52) (u % 2 ^ 63 % 2 ^ 52) / 2 ^ 1074
+by-fields : (x : Float) (u : ℕ) → T (fits binary64 x) → T (finite x) → u ≡ toBits binary64 x → truncated x ≡ fieldUnits (u % 2 ^ 63 / 2 ^ 52) (u % 2 ^ 63 % 2 ^ 52) / 2 ^ 1074
 by-fields x u F f e = truncated-units x F f ∙ ap (λ (b : ℕ). unitsOf (b % 2 ^ 63) / 2 ^ 1074) (sym e)
 
 pub nothing-whole : (x : Float) (u : ℕ) → T (fits binary64 x) → T (finite x) → u ≡ toBits binary64 x → u % 2 ^ 63 / 2 ^ 52 < 1023 → truncated x ≡ 0

@@ -1,20 +1,15 @@
 -- What Miller's method is asked with. Definitions only.
-use mathlib.Core.Bool.{Bool, cond}
-use lib.Ieee.{Float, binary64, ofBits, eq}
+use mathlib.Core.Bool.{Bool}
+use lib.Ieee.{eq}
+use Rattle.machine.specs.Small.{nothing}
 use Rattle.complex.specs.declared.number.Complex.{Complex}
-use Rattle.complex.specs.Functions.{modulusOf, argumentOf}
 use Rattle.roots.specs.Sqrt.{sqrtOf}
 use Rattle.miller.specs.declared.point.Point.{Point}
 
--- a zero imaginary part, -0 too
+-- A zero imaginary part, -0 too: the Rust text's real path (src/amos/right_half_plane.rs), of which ZBKNU has none.
 unfoldable pub isReal : Complex → Bool
-isReal z = eq (z .im) (ofBits binary64 0)
+isReal z = eq (z .im) nothing
 
-unfoldable pub complexPoint : Complex → Float → Point
-complexPoint z modulus = record { z = z; modulus = modulus; root = sqrtOf modulus; angle = argumentOf z }
-
--- on the real path the modulus is the real part, and there is no angle
+-- what the real path is asked with: the modulus is the real part, and there is no angle
 unfoldable pub pointOf : Complex → Point
-pointOf z =
-    cond (isReal z) (record { z = z; modulus = z .re; root = sqrtOf (z .re); angle = ofBits binary64 0 })
-    (complexPoint z (modulusOf z))
+pointOf z = record { z = z; modulus = z .re; root = sqrtOf (z .re); angle = nothing }

@@ -1,4 +1,4 @@
--- The whole part of a finite value's magnitude. Definitions only.
+-- The whole part of a finite value's magnitude: ZBKNU's INT at label 180, and the Rust text's `as usize`. Definitions only.
 use Prim.Native.Nat.{ℕ, _/_}
 use lib.Ieee.{Float}
 use lib.Ieee.Positive.{num, den}

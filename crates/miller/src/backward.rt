@@ -1,5 +1,6 @@
-// Miller's backward steps: from 2^-52 at the start down to the index 1, with the sum that normalises them. In real arithmetic and in complex arithmetic.
-// From src/amos/right_half_plane.rs, compute_large_z_miller_seeds. Promised: specs/Backward.antt; each step counts itself, so the count is the start.
+// Miller's backward steps: from 2^-52 at the start down to the index 1, with the sum that normalises them. In real arithmetic and in
+// complex arithmetic. From src/amos/right_half_plane.rs, compute_large_z_miller_seeds. Promised: specs/Backward.antt; each step counts
+// itself, so the count is the start.
 ghost use mathlib.Core.Path.{_≡_};
 ghost use Prim.Native.Nat.{_+_, _-_, _≤_, _<_, _^_};
 ghost use Rattle.laws.specs.Iterate.{iterate};
@@ -152,8 +153,9 @@ fn last_step(z: Complex, distance: f64, start: u32, s: ComplexSteps) -> ComplexS
     s
 }
 
-// Two steps a turn, so that no value is moved from one place to another. The tests between a real and an imaginary part keep the compiler from pairing
-// the two, which would put shuffles between one step and the next; what they find is no number in the end, whichever way it is reached.
+// Two steps a turn, so that no value is moved from one place to another. The tests between a real and an imaginary part keep the compiler
+// from pairing the two, which would put shuffles between one step and the next; what they find is no number in the end, whichever way it is
+// reached.
 pub fn complex_steps(z: Complex, distance: f64, start: u32) -> ComplexSteps
     ensures { λ r. ⌜ r ≡ complexSteps z distance start ⌝ }
 {

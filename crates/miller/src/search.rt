@@ -1,7 +1,9 @@
-// How many backward steps Miller's seeds begin with: to |z| = (2/3)·52 - 6 by a formula in |z| and the angle, above by trials, corrected by the angle.
+// How many backward steps Miller's seeds begin with: to |z| = (2/3)·52 - 6 by a formula in |z| and the angle, above by trials, corrected by
+// the angle.
 // From src/amos/right_half_plane.rs, determine_miller_starting_k. Promised for every argument: specs/Search.antt; a start is at most 256.
 ghost use mathlib.Core.Path.{_≡_};
-ghost use Rattle.miller.specs.Search.{startFrom, angleCorrection, correctionOf, rawStart, byRecurrence, curveOf, formulaOf, startOf};
+ghost use Rattle.miller.specs.Search.{startFrom, angleCorrection, rawStart, byRecurrence, curveOf, formulaOf, startOf};
+ghost use Rattle.miller.specs.shapes.Correction.{correctionOf};
 use crate::point::Order;
 use crate::point::Point;
 use crate::point::is_real;

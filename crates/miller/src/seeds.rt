@@ -1,7 +1,9 @@
-// The two seeds K(fraction) and K(fraction + 1) from Miller's backward steps, times a coefficient: the last value over the sum, and the ratio of the last two.
-// From src/amos/right_half_plane.rs, compute_large_z_miller_seeds. Promised for every argument: specs/Seeds.antt; refusal 6 exactly where the search finds no start.
+// The two seeds K(fraction) and K(fraction + 1) from Miller's backward steps, times a coefficient: the last value over the sum, and the
+// ratio of the last two. From src/amos/right_half_plane.rs, compute_large_z_miller_seeds. Promised for every argument: specs/Seeds.antt;
+// refusal 6 exactly where the search finds no start.
 ghost use mathlib.Core.Path.{_≡_};
-ghost use Rattle.miller.specs.Seeds.{realSecond, realSeeds, complexRatio, complexSecond, complexSeeds, seedsFrom, seedsAt};
+ghost use Rattle.miller.specs.Seeds.{realSecond, realSeeds, complexSeeds, seedsFrom, seedsAt};
+ghost use Rattle.miller.specs.shapes.Ratio.{ratioUnless, productUnless};
 use crate::backward::ComplexSteps;
 use crate::backward::RealSteps;
 use crate::backward::complex_steps;
@@ -56,7 +58,7 @@ fn real_seeds(x: f64, order: Order, coefficient: f64, alone: bool, start: u32) -
 
 // What the first seed is multiplied with for the second.
 fn complex_ratio(alone: bool, z: Complex, fraction: f64, s: ComplexSteps) -> Complex
-    ensures { λ r. ⌜ r ≡ complexRatio alone z fraction s ⌝ }
+    ensures { λ r. ⌜ r ≡ ratioUnless alone z fraction s ⌝ }
 {
     if alone {
         return Complex { re: 0.0, im: 0.0 };
@@ -72,7 +74,7 @@ fn complex_ratio(alone: bool, z: Complex, fraction: f64, s: ComplexSteps) -> Com
 }
 
 fn complex_second(alone: bool, ratio: Complex, first: Complex) -> Complex
-    ensures { λ r. ⌜ r ≡ complexSecond alone ratio first ⌝ }
+    ensures { λ r. ⌜ r ≡ productUnless alone ratio first ⌝ }
 {
     if alone {
         return Complex { re: 0.0, im: 0.0 };

@@ -32,7 +32,7 @@ small-gap D P R e p h k =
     let g : D * W * (e * e) * D ≤ 1521 * (P * R) * D = omega arith in
     le-of-mul-le-mul-right g p
 
-pub heron-square : (P R : ℕ) → (2 ^ 31 - 39) * R ≤ 2 ^ 31 * P → 2 ^ 31 * P ≤ (2 ^ 31 + 39) * R → (4 * (P * R) ≤ (P + R) * (P + R)) × (2 ^ 31 * (2 ^ 31 - 39) * 4 * ((P + R) * (P + R)) ≤ (2 ^ 31 * (2 ^ 31 - 39) * 4 + 1521) * (4 * (P * R)))
+heron-square : (P R : ℕ) → (2 ^ 31 - 39) * R ≤ 2 ^ 31 * P → 2 ^ 31 * P ≤ (2 ^ 31 + 39) * R → (4 * (P * R) ≤ (P + R) * (P + R)) × (2 ^ 31 * (2 ^ 31 - 39) * 4 * ((P + R) * (P + R)) ≤ (2 ^ 31 * (2 ^ 31 - 39) * 4 + 1521) * (4 * (P * R)))
 heron-square P R l u =
     elim (which P R) [
       | inl h ↦
@@ -112,7 +112,7 @@ module _ (s f : Float) (n : ℕ) (p : T (positive s)) (l : den s ≤ 2 * num s) 
       let y = mul-le-mul-right (den f) (h .1) in
       record { lower = omega arith; upper = omega arith }
 
-  pub heron-close : T (positive (add binary64 s (div binary64 f s)))
+  heron-close : T (positive (add binary64 s (div binary64 f s)))
       × Rat (2 ^ 60 - 513) (2 ^ 60 + 608) (2 ^ 60) (num (add binary64 s (div binary64 f s)) * num (add binary64 s (div binary64 f s))) (den (add binary64 s (div binary64 f s)) * den (add binary64 s (div binary64 f s))) (4 * n) (2 ^ 52)
   heron-close =
       let e = value→cross f n (2 ^ 52) v in

@@ -154,7 +154,7 @@ sum-parts f (fin s m e) nan h = absurd h
 sum-parts f (fin s m e) (inf t) h = absurd h
 sum-parts f (fin s m e) (fin t n d) h = (tt, tt)
 
-pub square-part : (f : Format) (x : Float) → T (finite (mul f x x)) → T (finite x)
+square-part : (f : Format) (x : Float) → T (finite (mul f x x)) → T (finite x)
 unfolding mul
 square-part f nan h = h
 square-part f (inf s) h = h

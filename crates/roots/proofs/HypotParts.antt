@@ -40,7 +40,7 @@ least-value (inf s) F h = absurd (lt-irrefl 0 h)
 least-value (fin s zero e) F h = absurd (lt-irrefl 0 (subst (λ (t : ℕ). 0 < t) (zero-mul (up e)) h))
 least-value (fin s (suc m) e) F h = le-trans (least-of s m e F .0) (le-trans (le-of-eq (sym (one-mul (2 ^ 1074)))) (mul-le-mul-right (2 ^ 1074) h))
 
-pub most-value : (x : Float) → T (fits binary64 x) → num x ≤ 2 ^ 1024 * den x
+most-value : (x : Float) → T (fits binary64 x) → num x ≤ 2 ^ 1024 * den x
 most-value nan F = zero-le
 most-value (inf s) F = zero-le
 most-value (fin s zero e) F = le-trans (le-of-eq (zero-mul (up e))) zero-le

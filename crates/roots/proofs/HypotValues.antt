@@ -10,7 +10,7 @@ use lib.Ieee.{Float, nan, inf, fin, binary64, up, down, size, round, neg, add, s
 use lib.Ieee.Exact.{HasValue}
 use Rattle.laws.proofs.Power.{unique}
 use Rattle.laws.proofs.Sign.{mul-neg-l, mul-neg-neg, add-comm-float}
-use Rattle.roots.specs.Tables.{constants, slopes, bends}
+use Rattle.roots_tables.specs.Tables.{constants, slopes, bends}
 use Rattle.roots.specs.Seed.{quadratic, seedOf, twiceRoot}
 use Rattle.roots.specs.Hypot.{rootAt, sumOfSquares, leastSum, greatestSum, larger, smaller, scaledHypot, fullHypot, magnitudeOf, hypotOf}
 

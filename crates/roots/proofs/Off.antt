@@ -23,10 +23,10 @@ pub record Off (K : ℕ) (z : Float) (P E : ℕ) : Type 0 where
   pub near : Offset K (num z) (den z) P E
 
 -- ---- fractions
-pub offset-exact : (K a c P : ℕ) → a * K ≡ P * c → Offset K a c P 0
+offset-exact : (K a c P : ℕ) → a * K ≡ P * c → Offset K a c P 0
 offset-exact K a c P e = record { above = le-trans (le-of-eq e) (mul-le-mul-right c (omega arith)); below = le-trans (le-of-eq (sym e)) (omega arith) }
 
-pub offset-more : {K a c P E : ℕ} (E' : ℕ) → E ≤ E' → Offset K a c P E → Offset K a c P E'
+offset-more : {K a c P E : ℕ} (E' : ℕ) → E ≤ E' → Offset K a c P E → Offset K a c P E'
 offset-more {K} {a} {c} {P} {E} E' h o =
     let m : E * c ≤ E' * c = mul-le-mul-right c h in
     record {
@@ -34,7 +34,7 @@ offset-more {K} {a} {c} {P} {E} E' h o =
       below = le-trans (o .below) (omega arith);
     }
 
-pub offset-add : {K a c P E a' c' P' E' : ℕ} → Offset K a c P E → Offset K a' c' P' E' → Offset K (a * c' + a' * c) (c * c') (P + P') (E + E')
+offset-add : {K a c P E a' c' P' E' : ℕ} → Offset K a c P E → Offset K a' c' P' E' → Offset K (a * c' + a' * c) (c * c') (P + P') (E + E')
 offset-add {K} {a} {c} {P} {E} {a'} {c'} {P'} {E'} o o' =
     let s : (a * c' + a' * c) * K ≡ a * K * c' + a' * K * c = add-mul (a * c') (a' * c) K ∙ simp (mul-right-comm a c' K, mul-right-comm a' c K) in
     let x : a * K * c' ≤ (P + E) * c * c' = mul-le-mul-right c' (o .above) in
@@ -53,7 +53,7 @@ offset-add {K} {a} {c} {P} {E} {a'} {c'} {P'} {E'} o o' =
     let k : (E + E') * (c * c') ≡ E * (c * c') + E' * (c * c') = add-mul E E' (c * c') in
     record { above = omega arith; below = omega arith }
 
-pub offset-sub : {K a c P E a' c' P' E' : ℕ} → P' ≤ P → a' * c ≤ a * c' → Offset K a c P E → Offset K a' c' P' E' → Offset K (a * c' - a' * c) (c * c') (P - P') (E + E')
+offset-sub : {K a c P E a' c' P' E' : ℕ} → P' ≤ P → a' * c ≤ a * c' → Offset K a c P E → Offset K a' c' P' E' → Offset K (a * c' - a' * c) (c * c') (P - P') (E + E')
 offset-sub {K} {a} {c} {P} {E} {a'} {c'} {P'} {E'} l m o o' =
     let R = P - P' in
     let r : P ≡ R + P' = omega arith in
@@ -76,7 +76,7 @@ offset-sub {K} {a} {c} {P} {E} {a'} {c'} {P'} {E'} l m o o' =
     record { above = omega arith; below = omega arith }
 
 -- times x / Q: P x is a whole number of Q, and the error no more than was
-pub offset-scale : {K a c P E : ℕ} (x Q R : ℕ) → P * x ≡ R * Q → x ≤ Q → Offset K a c P E → Offset K (a * x) (c * Q) R E
+offset-scale : {K a c P E : ℕ} (x Q R : ℕ) → P * x ≡ R * Q → x ≤ Q → Offset K a c P E → Offset K (a * x) (c * Q) R E
 offset-scale {K} {a} {c} {P} {E} x Q R e l o =
     let y : a * x * K ≤ (P + E) * c * x = le-trans (le-of-eq (mul-right-comm a x K)) (mul-le-mul-right x (o .above)) in
     let z : P * c * x ≤ (a * K + E * c) * x = mul-le-mul-right x (o .below) in
@@ -110,7 +110,7 @@ offset-near K n m a c P E H S t C G u v h o =
     record { above = le-of-mul-le-mul-right above' (mul-pos C G); below = le-of-mul-le-mul-right below' (mul-pos C G) }
 
 -- ---- one rounding of a fraction up to 2 ^ (e + 1 - s), which adds 2 ^ (e - 53 - s), that is H / K
-pub off-round : {K a c P E : ℕ} (z : Float) (e s H : ℕ) → z ≡ round binary64 false a c → 0 < c → 0 < K → Offset K a c P E → (P + E) * 2 ^ s ≤ 2 ^ suc e * K → 53 + s ≤ 1074 + suc e → 2 ^ suc e ≤ largest binary64 → 2 ^ e * K ≤ H * 2 ^ (53 + s)
+off-round : {K a c P E : ℕ} (z : Float) (e s H : ℕ) → z ≡ round binary64 false a c → 0 < c → 0 < K → Offset K a c P E → (P + E) * 2 ^ s ≤ 2 ^ suc e * K → 53 + s ≤ 1074 + suc e → 2 ^ suc e ≤ largest binary64 → 2 ^ e * K ≤ H * 2 ^ (53 + s)
     → Off K z P (E + H)
 off-round {K} {a} {c} {P} {E} z e s H q C k o l d b h =
     let under : a * 2 ^ s ≤ 2 ^ suc e * c =

@@ -114,7 +114,7 @@ module _ (u : ℕ) (l : 0 < u) (f : u < 2 ^ 52) where
   shift-is : place .0 + shift u ≡ 52
   shift-is = let p : leadingZeros 64 u + suc (place .0) ≡ 64 = place .1 in let q : place .0 < 52 = place-lt in omega arith
 
-  pub brought-least : 2 ^ 52 ≤ u * 2 ^ shift u
+  brought-least : 2 ^ 52 ≤ u * 2 ^ shift u
   brought-least = le-trans (le-of-eq (ap (λ (t : ℕ). 2 ^ t) (sym (shift-is)) ∙ pow-add 2 (place .0) (shift u))) (mul-le-mul-right (2 ^ shift u) (place .2))
 
   pub brought-most : u * 2 ^ shift u < 2 ^ 53

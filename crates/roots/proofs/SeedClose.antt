@@ -16,7 +16,7 @@ use borrow.Author.Tests.{lt-ltb, le-ltb}
 use Rattle.laws.proofs.Value.{value-same}
 use Rattle.laws.proofs.Bits.{binade-down}
 use Rattle.laws.proofs.Relative.{Rat, nonnegative-of-value, positive-of-num, rat-mul, rat-trans, rat-weaken, sub-round}
-use Rattle.roots.specs.Tables.{constants, slopes, bends}
+use Rattle.roots_tables.specs.Tables.{constants, slopes, bends}
 use Rattle.roots.specs.Seed.{argument, leftEnd, quadratic, seedOf}
 use Rattle.roots.specs.Sqrt.{scaled}
 use Rattle.roots.proofs.WholeRoot.{which}
@@ -40,11 +40,11 @@ argument-value w h =
           (value-same (ofBits binary64 (1024 * 2 ^ 52 + v)) false (2 ^ 52 + v) (2 ^ 51) (scaled w) (2 ^ 52) (pow-pos 51) g (binade-down 51 v (lit< tt) (omega arith)))
     ]
 
-abbrev pub distance : ℕ → ℕ
+abbrev distance : ℕ → ℕ
 distance w = cond (ltb (w / 2 ^ 46) 64) (w % 2 ^ 46) (w % 2 ^ 46 * 2)
 
 -- the three numbers in either half
-pub placed : (w : ℕ) → w < 2 ^ 53 → (scaled w ≡ leftOf (w / 2 ^ 46) + distance w) × (scaled (w - w % 2 ^ 46) ≡ leftOf (w / 2 ^ 46)) × (distance w < 16 * partOf (w / 2 ^ 46)) × (distance w < 2 ^ 47)
+placed : (w : ℕ) → w < 2 ^ 53 → (scaled w ≡ leftOf (w / 2 ^ 46) + distance w) × (scaled (w - w % 2 ^ 46) ≡ leftOf (w / 2 ^ 46)) × (distance w < 16 * partOf (w / 2 ^ 46)) × (distance w < 2 ^ 47)
 placed w h =
     let i = w / 2 ^ 46 in
     let t = w % 2 ^ 46 in
@@ -99,7 +99,7 @@ difference-value x y a b d k e u l v w =
     let f : d * 2 ^ j < 2 ^ 2098 = lt-of-lt-of-le (mul-lt-mul-of-pos-right u (pow-pos j)) (le-trans (le-of-eq (sym (pow-add 2 53 j))) (pow-mono {i = 53 + j} {j = 2098} (omega arith))) in
     subst (λ (z : Float). HasValue z false d K) (sym r) (round-exact binary64 false d K d j (pow-pos k) u f s)
 
-pub distance-value : (w : ℕ) → w < 2 ^ 53 → HasValue (sub binary64 (argument w) (leftEnd w)) false (distance w) (2 ^ 52)
+distance-value : (w : ℕ) → w < 2 ^ 53 → HasValue (sub binary64 (argument w) (leftEnd w)) false (distance w) (2 ^ 52)
 distance-value w h =
     let p = placed w h in
     difference-value (argument w) (leftEnd w) (scaled w) (leftOf (w / 2 ^ 46)) (distance w) 52 (p .0) (omega (arith, p .3)) (lit≤ tt) (argument-value w h) (left-value w h)
@@ -165,7 +165,7 @@ module _ (c0 c1 c2 d : Float) (C0 C1 C2 x : ℕ) (v0 : HasValue c0 false C0 (2 ^
       (lit≤ tt)
       (lit≤ tt)
 
-  pub over-bend : C2 * (x * x) + (0 + 2 ^ 100 + 2 ^ 108) + (0 + (0 + 2 ^ 102) + 2 ^ 110) ≤ C0 * 2 ^ 110 + C1 * 2 ^ 56 * x
+  over-bend : C2 * (x * x) + (0 + 2 ^ 100 + 2 ^ 108) + (0 + (0 + 2 ^ 102) + 2 ^ 110) ≤ C0 * 2 ^ 110 + C1 * 2 ^ 56 * x
   over-bend =
       le-trans (sum-le (sum-le bent (lit≤ {m = 0 + 2 ^ 100 + 2 ^ 108} {n = 2 ^ 109} tt)) (lit≤ {m = 0 + (0 + 2 ^ 102) + 2 ^ 110} {n = 2 ^ 111} tt))
       (le-trans (lit≤ {m = 2 ^ 149 + 2 ^ 109 + 2 ^ 111} {n = 2 ^ 162} tt) (le-trans (mul-le-mul-right (2 ^ 110) l0) (omega arith)))
@@ -176,7 +176,7 @@ module _ (c0 c1 c2 d : Float) (C0 C1 C2 x : ℕ) (v0 : HasValue c0 false C0 (2 ^
   ceiling : C0 * 2 ^ 110 + C1 * 2 ^ 56 * x + 2 ^ 112 ≤ 2 ^ 164
   ceiling = le-trans (sum-le (sum-le (mul-le-mul-right (2 ^ 110) u0) rising) (lit≤ {m = 2 ^ 112} {n = 2 ^ 112} tt)) (lit≤ tt)
 
-  pub quadratic-off : Off (2 ^ 162) (quadratic c0 c1 c2 d) (C0 * 2 ^ 110 + C1 * 2 ^ 56 * x - C2 * (x * x)) (2 ^ 112)
+  quadratic-off : Off (2 ^ 162) (quadratic c0 c1 c2 d) (C0 * 2 ^ 110 + C1 * 2 ^ 56 * x - C2 * (x * x)) (2 ^ 112)
   unfolding quadratic
   quadratic-off =
       off-more (2 ^ 112) (lit≤ {m = 0 + (0 + 2 ^ 102) + 2 ^ 110 + (0 + 2 ^ 100 + 2 ^ 108) + 2 ^ 110} {n = 2 ^ 112} tt)

@@ -14,7 +14,7 @@ use lib.Ieee.Positive.{num, den, positive, den-pos, own-value}
 use lib.Ieee.Exact.{HasValue}
 use lib.ListN.{length, getD}
 use Rattle.laws.proofs.Value.{value-same}
-use Rattle.roots.specs.Tables.{constants, slopes, bends}
+use Rattle.roots_tables.specs.Tables.{constants, slopes, bends}
 use Rattle.roots.proofs.WholeRoot.{which}
 
 -- ---- the accuracy, U / D and V / D, and the scale of the numbers: Z / 2 ^ 162 is the quadratic, F / 2 ^ 52 the argument
@@ -72,11 +72,11 @@ wholeAt x k = num x * 2 ^ k / den x
 abbrev isWhole : Float → ℕ → ℕ → ℕ → Bool
 isWhole x k A B = positive x && (eqb (num x * 2 ^ k) (wholeAt x k * den x) && (leb A (wholeAt x k) && leb (wholeAt x k) B))
 
-abbrev pub piece : ℕ → Float → Float → Float → Bool
+abbrev piece : ℕ → Float → Float → Float → Bool
 piece i x y z =
     isWhole x 52 (2 ^ 52) (2 ^ 53) && (isWhole y 54 0 (2 ^ 53) && (isWhole z 58 0 (2 ^ 55) && allParts 16 (wholeAt x 52 * 2 ^ 110) (wholeAt y 54 * 2 ^ 56) (wholeAt z 58) (leftOf i) (partOf i)))
 
-abbrev pub pieces : ℕ → List Float → List Float → List Float → Bool
+abbrev pieces : ℕ → List Float → List Float → List Float → Bool
 pieces i [] ys zs = true
 pieces i (x ∷ xs) [] zs = false
 pieces i (x ∷ xs) (y ∷ ys) [] = false
@@ -207,7 +207,7 @@ shifted P Q C a v Z h k e =
     let z : Q * (a + v) ≡ Q * a + Q * v = mul-add Q a v in
     omega arith
 
-pub all-parts : (n P Q C L h x Z : ℕ) → T (allParts n P Q C L h) → x < n * h → Z + C * (x * x) ≡ P + Q * x → Accurate Z (L + x)
+all-parts : (n P Q C L h x Z : ℕ) → T (allParts n P Q C L h) → x < n * h → Z + C * (x * x) ≡ P + Q * x → Accurate Z (L + x)
 all-parts zero P Q C L h x Z t u e = absurd (not-below x (lt-of-lt-of-le u (le-of-eq (zero-mul h))))
   where
     not-below : (y : ℕ) → y < 0 → ⊥

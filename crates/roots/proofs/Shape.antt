@@ -71,7 +71,7 @@ module _ (n M s j k : ℕ) (e : n * 2 ^ s ≡ M * 2 ^ j) (d : k + s ≡ 53 + j) 
       ∙ sym whole
 
   -- what `sqrtOf` takes the root of
-  pub taken : n * 2 ^ 106 / 4 ^ half (size n) ≡ kept M k
+  taken : n * 2 ^ 106 / 4 ^ half (size n) ≡ kept M k
   taken = ap (λ (t : ℕ). n * 2 ^ 106 / 4 ^ half t) digits ∙ ap (λ (t : ℕ). t / 4 ^ half k) (sym quarter) ∙ mul-div-cancel (kept M k) (subst (λ (t : ℕ). 0 < t) (sym (four (half k))) (pow-pos (half k + half k)))
 
   pub taken-least : 2 ^ 104 ≤ kept M k

@@ -110,7 +110,7 @@ pub nearest-pos : (n r : ℕ) → Nearest n r → 0 < n → 0 < r
 nearest-pos n r a h = above-below n r 0 a h
 
 -- the 54 digits of a significand and 52 more
-pub scaled-lt : (n : ℕ) → n < 2 ^ 54 → n * 2 ^ 52 < 4 ^ 53
+scaled-lt : (n : ℕ) → n < 2 ^ 54 → n * 2 ^ 52 < 4 ^ 53
 scaled-lt n h = omega arith
 
 pub scaled-nearest : (n : ℕ) → 0 < n → n < 2 ^ 54 → Nearest (n * 2 ^ 52) (nearestRoot 53 (n * 2 ^ 52))
@@ -126,7 +126,7 @@ restOf e = e / 2 ^ 26 * (e % 2 ^ 26) % 2 ^ 25 * 2 ^ 27 + e % 2 ^ 26 * (e % 2 ^ 2
 square : (a b : ℕ) → (a * 2 ^ 26 + b) * (a * 2 ^ 26 + b) ≡ a * a * 2 ^ 52 + a * b * 2 ^ 27 + b * b
 square a b = simp (add-mul, mul-add, mul-assoc, mul-comm, mul-left-comm) (omega arith)
 
-pub parted : (e : ℕ) → e * e ≡ multiples e * 2 ^ 52 + restOf e
+parted : (e : ℕ) → e * e ≡ multiples e * 2 ^ 52 + restOf e
 parted e =
     let h = e / 2 ^ 26 in
     let l = e % 2 ^ 26 in
@@ -157,10 +157,10 @@ near-multiples n e r N h l u =
     (k, omega (arith, parted e, plus-two r, N .1), omega (arith, parted e, plus-two e, N .0))
 
 -- ---- what a comparison adds: 1 for an s below the nearest root
-abbrev pub Told : ℕ → ℕ → ℕ → Type 0
+abbrev Told : ℕ → ℕ → ℕ → Type 0
 Told s r v = ((v ≡ 1) × (s < r)) ⊎ ((v ≡ 0) × (r ≤ s))
 
-pub told : (n r s a b : ℕ) → Nearest n r → a + n ≡ b + (s * s + s) → Told s r (cond (ltb a b) 1 0)
+told : (n r s a b : ℕ) → Nearest n r → a + n ≡ b + (s * s + s) → Told s r (cond (ltb a b) 1 0)
 told n r s a b N h =
     elim (which a b) [
       | inl k ↦ inl (ap (λ (t : Bool). cond t 1 0) (lt-ltb a b k), above-below n r s N (omega arith))

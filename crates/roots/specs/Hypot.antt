@@ -1,11 +1,12 @@
--- The length of the vector (x, y), by a root of its own. Definitions only.
+-- The length of the vector (x, y), Algorithm 644's XZABS, by a root of its own. Own design: the scope leaves the formula open. Definitions
+-- only.
 use Prim.Native.Nat.{ℕ, zero, suc, _+_, _*_, _/_, _%_, _^_}
 use mathlib.Core.Bool.{Bool, true, false, cond}
-use lib.IntN.{ℤ}
 use lib.Ieee.{Float, nan, inf, fin, binary64, add, mul, le, ofBits, toBits}
 use Rattle.roots.specs.Seed.{twiceRoot}
 
--- the root of the value of a pattern: the seed and one Heron step on the significand, times half of the even power of two that was taken off
+-- the root of the value of a pattern: the seed and one Heron step on the significand, times half of the even power of two that was taken
+-- off
 unfoldable pub rootAt : ℕ → Float
 rootAt u = mul binary64 (twiceRoot u) (ofBits binary64 ((u % 2 ^ 63 / 2 ^ 52 + 1021) / 2 * 2 ^ 52))
 

@@ -1,4 +1,3 @@
-pub mod Tables
 pub mod Seed
 pub mod Sqrt
 pub mod Hypot

@@ -1,8 +1,8 @@
--- Twice the root of a number's significand: a seed from a table of quadratics, and one Heron step. Definitions only.
-use Prim.Native.Nat.{ℕ, _+_, _-_, _*_, _/_, _%_, _^_}
+-- Twice the root of a number's significand: a seed from a table of quadratics, and one Heron step. Own design. Definitions only.
+use Prim.Native.Nat.{ℕ, _+_, _-_, _/_, _%_, _^_}
 use lib.ListN.{getD}
 use lib.Ieee.{Float, nan, binary64, add, sub, mul, div, ofBits}
-use Rattle.roots.specs.Tables.{constants, slopes, bends}
+use Rattle.roots_tables.specs.Tables.{constants, slopes, bends}
 
 -- A pattern u has the value f * 4 ^ k, f from 1 up to 4, in one way: `folded u` more than the pattern of 1 is that of f.
 abbrev pub folded : ℕ → ℕ

@@ -31,7 +31,8 @@ sqrtOf (fin false (suc m) e) =
     let h = (size n + 1) / 2 in
     round binary64 false (nearestRoot 53 (n * 2 ^ 106 / 4 ^ h) * 2 ^ h) (2 ^ 590)
 
--- r is nearer to the root of x than any other f64 above zero: the middle of r and a z below r has a square below x, and that of r and a z above r has one above x.
+-- r is nearer to the root of x than any other f64 above zero: the middle of r and a z below r has a square below x, and that of r and a z
+-- above r has one above x.
 -- With values as fractions, ((r + z) / 2) ^ 2 < x is a comparison of whole numbers. Since both are strict, no tie is left to a rule.
 abbrev pub square : ℕ → ℕ
 square n = n * n
@@ -39,5 +40,7 @@ square n = n * n
 pub record NearestRoot (x r : Float) : Type 0 where
   pub holds : T (fits binary64 r)
   pub isPositive : T (positive r)
-  pub below : (z : Float) → T (fits binary64 z) → T (positive z) → T (lt z r) → square (num r * den z + num z * den r) * den x < 4 * num x * square (den r * den z)
-  pub above : (z : Float) → T (fits binary64 z) → T (positive z) → T (lt r z) → 4 * num x * square (den r * den z) < square (num r * den z + num z * den r) * den x
+  pub below : (z : Float) → T (fits binary64 z) → T (positive z) → T (lt z r)
+      → square (num r * den z + num z * den r) * den x < 4 * num x * square (den r * den z)
+  pub above : (z : Float) → T (fits binary64 z) → T (positive z) → T (lt r z)
+      → 4 * num x * square (den r * den z) < square (num r * den z + num z * den r) * den x

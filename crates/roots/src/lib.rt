@@ -2,4 +2,3 @@
 pub mod hypot;
 pub mod seed;
 pub mod sqrt;
-pub mod tables;

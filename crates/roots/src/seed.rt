@@ -3,7 +3,7 @@
 ghost use mathlib.Core.Path.{_≡_};
 ghost use Prim.Native.Nat.{_<_, _^_};
 ghost use Rattle.roots.specs.Seed.{seedOf, twiceRoot};
-use crate::tables::quadratic_of;
+use roots_tables::tables::quadratic_of;
 
 // w is how far the argument's pattern is above that of 1; each piece has 2^46 patterns.
 fn seed(w: u64) -> f64

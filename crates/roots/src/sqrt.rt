@@ -1,5 +1,5 @@
-// The square root of any f64: the nearest f64, whose proof compares integer squares. A root of not-a-number or of a negative number is not-a-number.
-// Own design: the seed of `seed`, one Heron step, then a correction by comparing whole squares. Correctly rounded.
+// The square root of any f64: the nearest f64, whose proof compares integer squares. A root of not-a-number or of a negative number is
+// not-a-number. Own design: the seed of `seed`, one Heron step, then a correction by comparing whole squares. Correctly rounded.
 ghost use mathlib.Core.Path.{_≡_};
 ghost use mathlib.Core.Bool.{cond};
 ghost use Prim.Native.Nat.{_+_, _*_, _^_, _≤_, _<_};
@@ -18,8 +18,9 @@ fn one_if_below(a: u64, b: u64) -> u64
     if a < b { 1 } else { 0 }
 }
 
-// An estimate e within 2 of the nearest whole root of n * 2^52 is brought to it: e - 2, and 1 for each s from there to e + 1 whose middle s + 1/2 is below the root,
-// that is s * s + s < n * 2^52. The four differ from e * e by -3e + 2, -e, e and 3e + 2. With e = h * 2^26 + l and whole multiples of 2^52 taken off, all fits 64 bits.
+// An estimate e within 2 of the nearest whole root of n * 2^52 is brought to it: e - 2, and 1 for each s from there to e + 1 whose middle s
+// + 1/2 is below the root, that is s * s + s < n * 2^52. The four differ from e * e by -3e + 2, -e, e and 3e + 2. With e = h * 2^26 + l and
+// whole multiples of 2^52 taken off, all fits 64 bits.
 // No comparison is a branch: of 400,000 estimates one in four was off by 1, and a branch on that is guessed wrong.
 fn corrected(n: u64, e: u64) -> u64
     requires { ⌜ (2 ^ 52 ≤ n) × (n < 2 ^ 54) × (nearestRoot 53 (n * 2 ^ 52) ≤ e + 2) × (e ≤ nearestRoot 53 (n * 2 ^ 52) + 2) ⌝ }

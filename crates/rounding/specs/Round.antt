@@ -1,4 +1,4 @@
--- Rounding to a whole number, a half away from zero. Definitions only.
+-- Rounding to a whole number, a half away from zero: Rust's f64::round. Definitions only.
 use Prim.Native.Nat.{ℕ, _+_, _*_, _/_, _≤_, _<_}
 use lib.Ieee.{Float, nan, inf, fin, binary64, up, down, round}
 use lib.Ieee.Positive.{num, den}

@@ -16,10 +16,9 @@ use Rattle.laws.proofs.First.{first, passed}
 use Rattle.laws.proofs.Sign.{mul-neg-neg}
 use Rattle.machine.specs.Constants.{tolerance}
 use Rattle.complex.specs.Lost.{magnitudeOf}
-use Rattle.complex.specs.Functions.{realPowerOf}
 use Rattle.temme.specs.declared.difference.Partial.{Partial}
 use Rattle.temme.specs.Difference.{differenceCoefficients, fractionSquare, startSeries, withTerm, seriesOf, SeriesEnds}
-use Rattle.temme.specs.Sum.{one}
+use Rattle.machine.specs.Small.{one}
 use Rattle.temme.proofs.Counted.{after-count, run-counted}
 use Rattle.temme.proofs.TemmeBound.{mul-up-round}
 use Rattle.temme.proofs.Magnitudes.{magnitude-bare, magnitude-up}
@@ -31,18 +30,22 @@ tenth = ofBits binary64 0x3FB999999999999A
 abbrev hundredth : Float
 hundredth = ofBits binary64 0x3F847AE147AE147C
 
+-- the power i as the series makes it, factor by factor from 1
+unfoldable powerOf : Float → ℕ → Float
+powerOf w i = iterate i (λ p. mul binary64 p w) one
+
 -- the term i, and the test behind it
 unfoldable term : Float → ℕ → Float
-term w i = mul binary64 (getD differenceCoefficients i nan) (realPowerOf w i)
+term w i = mul binary64 (getD differenceCoefficients i nan) (powerOf w i)
 
 unfoldable ends : Float → ℕ → Bool
 ends w i = lt (magnitudeOf (term w i)) tolerance
 
 powersTest : ℕ → Bool
-powersTest i = nonnegative (realPowerOf hundredth i)
+powersTest i = nonnegative (powerOf hundredth i)
 
 powers : T (every powersTest 7)
-unfolding powersTest realPowerOf iterate ofBits mul
+unfolding powersTest powerOf iterate ofBits mul
 powers = tt
 
 hundredth-sign : T (nonnegative hundredth)
@@ -50,7 +53,7 @@ unfolding ofBits
 hundredth-sign = tt
 
 term-sign : T (nonnegative (term hundredth 6))
-unfolding term differenceCoefficients realPowerOf iterate ofBits mul
+unfolding term differenceCoefficients powerOf iterate ofBits mul
 term-sign = tt
 
 coefficient-sign : T (nonnegative (getD differenceCoefficients 6 nan))
@@ -59,7 +62,7 @@ coefficient-sign = tt
 
 -- the seventh term at the largest square is below 2^-59
 seventh : Up (term hundredth 6) 1 (2 ^ 59)
-unfolding term differenceCoefficients realPowerOf iterate ofBits mul
+unfolding term differenceCoefficients powerOf iterate ofBits mul
 seventh = up-test (term hundredth 6) 1 (2 ^ 59) tt
 
 tolerance-lo : Lo tolerance 1 (2 ^ 52)
@@ -67,18 +70,18 @@ unfolding tolerance ofBits
 tolerance-lo = lo-test tolerance 1 (2 ^ 52) tt
 
 module _ (w : Float) (bound : Up w (num hundredth) (den hundredth)) where
-  power-up : (i : ℕ) → i < 7 → Up (realPowerOf w i) (num (realPowerOf hundredth i)) (den (realPowerOf hundredth i))
-  unfolding realPowerOf iterate powersTest ofBits
+  power-up : (i : ℕ) → i < 7 → Up (powerOf w i) (num (powerOf hundredth i)) (den (powerOf hundredth i))
+  unfolding powerOf iterate powersTest ofBits
   power-up zero h = up-of one tt
   power-up (suc i) h =
-      mul-up-round binary64 (realPowerOf w i) (realPowerOf hundredth i) w hundredth (every-at powersTest 7 powers i (omega arith)) hundredth-sign (every-at powersTest 7 powers (suc i) h)
+      mul-up-round binary64 (powerOf w i) (powerOf hundredth i) w hundredth (every-at powersTest 7 powers i (omega arith)) hundredth-sign (every-at powersTest 7 powers (suc i) h)
       (power-up i (omega arith)) bound
 
   term-up : Up (term w 6) 1 (2 ^ 59)
   unfolding term powersTest
   term-up =
       up-weaken 1 (2 ^ 59) (lit< tt) (seventh .bound)
-      (mul-up-round binary64 (getD differenceCoefficients 6 nan) (getD differenceCoefficients 6 nan) (realPowerOf w 6) (realPowerOf hundredth 6) coefficient-sign (every-at powersTest 7 powers 6 (lit< tt)) term-sign
+      (mul-up-round binary64 (getD differenceCoefficients 6 nan) (getD differenceCoefficients 6 nan) (powerOf w 6) (powerOf hundredth 6) coefficient-sign (every-at powersTest 7 powers 6 (lit< tt)) term-sign
       (up-of (getD differenceCoefficients 6 nan) coefficient-sign) (power-up 6 (lit< tt)))
 
   meets : ends w 6 ≡ true
@@ -100,8 +103,8 @@ module _ (w : Float) where
   unfolding withTerm
   counts s = refl
 
-  after-power : (i : ℕ) → after i .power ≡ realPowerOf w i
-  unfolding iterate withTerm startSeries realPowerOf
+  after-power : (i : ℕ) → after i .power ≡ powerOf w i
+  unfolding iterate withTerm startSeries powerOf
   after-power zero = refl
   after-power (suc i) = ap (λ (p : Float). mul binary64 p w) (after-power i)
 

@@ -7,13 +7,13 @@ use Rattle.rounding.specs.Round.{nearestWhole, roundOf}
 use Rattle.gamma_ln.specs.Tables.{wholeValues}
 use Rattle.gamma_ln.specs.GammaLn.{isTabulated, tabulatedOf, gammaLnOf}
 use Rattle.exponential.specs.Exp.{expOf}
+use Rattle.exponential.proofs.ExpFacts.{exp-at-minus-zero}
 use Rattle.complex.specs.Lost.{magnitudeOf}
 use Rattle.temme.specs.declared.gammas.Gammas.{Gammas}
 use Rattle.temme.specs.Difference.{differenceOf}
 use Rattle.temme.specs.Gammas.{oneOverSinc, differenceQuotient, gammasOf}
-use Rattle.temme.specs.Sum.{one}
+use Rattle.machine.specs.Small.{half, one}
 use Rattle.laws.proofs.Zero.{zeroOf, zero-is}
-use Rattle.temme.proofs.Zeros.{exp-minus-zero}
 
 one-plus : (s : Bool) → add binary64 one (zeroOf s) ≡ one
 unfolding ofBits add
@@ -36,23 +36,20 @@ log-gamma-at-one : gammaLnOf one .value ≡ zeroOf false
 unfolding gammaLnOf
 log-gamma-at-one = rw (above-zero, tabulated, value-at-one)
 
-minus-zero : neg (zeroOf false) ≡ zeroOf true
-unfolding neg
-minus-zero = refl
-
 sinc-at-zero : (s : Bool) → oneOverSinc (zeroOf s) ≡ one
 unfolding oneOverSinc ofBits eq
 sinc-at-zero true = refl
 sinc-at-zero false = refl
 
 plus-at-zero : (s : Bool) → expOf (neg (gammaLnOf (add binary64 one (zeroOf s)) .value)) ≡ one
-plus-at-zero s = rw (one-plus s, log-gamma-at-one, minus-zero) exp-minus-zero
+unfolding ofBits
+plus-at-zero s = rw (one-plus s, log-gamma-at-one) exp-at-minus-zero
 
 minus-at-zero : div binary64 one (mul binary64 one one) ≡ one
 unfolding ofBits div mul
 minus-at-zero = refl
 
-mean-at-zero : mul binary64 (add binary64 one one) (ofBits binary64 0x3FE0000000000000) ≡ one
+mean-at-zero : mul binary64 (add binary64 one one) half ≡ one
 unfolding ofBits add mul
 mean-at-zero = refl
 

@@ -5,5 +5,4 @@ pub mod GammasAtZero
 pub mod Magnitudes
 pub mod StartAtZero
 pub mod TemmeBound
-pub mod Zeros
 pub mod WholeShares

@@ -6,8 +6,7 @@ use lib.Ieee.{Float, binary64, ofBits, fits, add, sub, mul, div, eq}
 use Rattle.laws.proofs.Zero.{zeroOf, zero-is, one-is}
 use Rattle.complex.specs.declared.number.Complex.{Complex}
 use Rattle.complex.specs.Arithmetic.{timesReal, overReal, normSquareOf, quotientOf, realOver}
-use Rattle.temme.specs.Sum.{one}
-use Rattle.temme.specs.Seeds.{half}
+use Rattle.machine.specs.Small.{half, one}
 
 neg-signed : (t : Bool) → overReal (timesReal (record { re = one; im = zeroOf t }) half) one ≡ record { re = half; im = zeroOf t }
 unfolding overReal timesReal ofBits mul div

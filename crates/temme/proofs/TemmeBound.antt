@@ -16,10 +16,11 @@ use Rattle.laws.proofs.First.{First, first, passed}
 use Rattle.machine.specs.Constants.{tolerance}
 use Rattle.complex.specs.declared.number.Complex.{Complex}
 use Rattle.temme.specs.declared.gammas.Gammas.{Gammas}
-use Rattle.temme.specs.declared.sum.Ground.{Ground}
+use Rattle.temme.specs.declared.sum.Fixed.{Fixed}
 use Rattle.temme.specs.declared.sum.Terms.{Terms}
-use Rattle.temme.specs.Sum.{one, nextMagnitude, nextTerms, isSummed, sumOf, EndsByTest}
-use Rattle.temme.specs.Seeds.{quarter, quarterSquare, groundOf, startOf, summedOf, seedsOf}
+use Rattle.machine.specs.Small.{quarter, one, two}
+use Rattle.temme.specs.Sum.{nextMagnitude, nextTerms, isSummed, sumOf, EndsByTest}
+use Rattle.temme.specs.Seeds.{quarterSquare, fixedOf, startOf, summedOf, seedsOf}
 use Rattle.temme.proofs.Counted.{after-count, run-counted}
 
 -- a product is at most the rounded product of the bounds
@@ -100,17 +101,14 @@ module _ (y : Float) (bound : Up y (num one) (den one)) where
       behind (suc n) e = zero-lt-suc n
 
 -- ---- a modulus up to 2
-two : Float
-two = ofBits binary64 0x4000000000000000
-
 quarter-square-up : (m : Float) → T (nonnegative m) → T (le m two) → Up (quarterSquare m) (num one) (den one)
-unfolding quarterSquare two ofBits mul
+unfolding quarterSquare ofBits mul
 quarter-square-up m p h =
     let b : Up m (num two) (den two) = up-of-le m two p h (up-of two tt) in
     mul-up-round binary64 (mul binary64 quarter m) (mul binary64 quarter two) m two tt tt tt (mul-up-round binary64 quarter quarter m two tt tt tt (up-of quarter tt) b) b
 
 -- ---- the state after k turns
-module _ (g : Ground) (start : Terms) (none : start .terms ≡ 0) (whole : start .«term_magnitude» ≡ one) where
+module _ (g : Fixed) (start : Terms) (none : start .terms ≡ 0) (whole : start .«term_magnitude» ≡ one) where
   counts : (s : Terms) → nextTerms g s .terms ≡ s .terms + 1
   unfolding nextTerms
   counts s = refl
@@ -124,7 +122,7 @@ module _ (g : Ground) (start : Terms) (none : start .terms ≡ 0) (whole : start
   unfolding isSummed sumEnds
   stops k = ap (λ (t : Float). le t tolerance) (after-magnitude k)
 
-  pub sum-ends : Up (g .«abs_z_sqr_over_4») (num one) (den one) → EndsByTest (sumOf g start)
+  sum-ends : Up (g .«abs_z_sqr_over_4») (num one) (den one) → EndsByTest (sumOf g start)
   unfolding sumOf
   sum-ends b =
       let e = ends (g .«abs_z_sqr_over_4») b in
@@ -135,15 +133,15 @@ module _ (g : Ground) (start : Terms) (none : start .terms ≡ 0) (whole : start
 
 -- ---- the seeds, for a modulus up to 2; below 2^-52 nothing is added
 bare : (m : Float) → T (le tolerance m) → T (le m two) → T (nonnegative m)
-unfolding tolerance two ofBits
+unfolding tolerance ofBits
 bare m t h = lo-nonnegative (lo-of-le m tolerance (lit< tt) t (lo-test tolerance 1 (2 ^ 52) tt)) (finite-between tolerance m two tt tt t h)
 
 module _ (z : Complex) (m v w : Float) (h : T (le m (ofBits binary64 0x4000000000000000))) where
   pub temme-ends : (g : Gammas) (exp cosh shinc : Complex) → T (le tolerance m) → EndsByTest (summedOf z m v w (startOf g exp cosh shinc))
-  unfolding summedOf startOf groundOf two
+  unfolding summedOf startOf fixedOf
   temme-ends g exp cosh shinc t =
-      subst (λ (b : Bool). EndsByTest (cond b (sumOf (groundOf z m v w) (startOf g exp cosh shinc)) (startOf g exp cosh shinc))) (sym (passed (le tolerance m) t))
-      (sum-ends (groundOf z m v w) (startOf g exp cosh shinc) refl refl (quarter-square-up m (bare m t h) h))
+      subst (λ (b : Bool). EndsByTest (cond b (sumOf (fixedOf z m v w) (startOf g exp cosh shinc)) (startOf g exp cosh shinc))) (sym (passed (le tolerance m) t))
+      (sum-ends (fixedOf z m v w) (startOf g exp cosh shinc) refl refl (quarter-square-up m (bare m t h) h))
 
   pub seeds-terms : (l : Complex) → seedsOf z m l v w .terms ≤ 18
   unfolding seedsOf summedOf startOf
@@ -152,7 +150,3 @@ module _ (z : Complex) (m v w : Float) (h : T (le m (ofBits binary64 0x400000000
       go : (b : Bool) → le tolerance m ≡ b → seedsOf z m l v w .terms ≤ 18
       go true e = temme-ends _ _ _ _ (subst T (sym e) tt) .few
       go false e = rw e (lit≤ tt)
-
-pub nothing-added : (z l : Complex) (m v w : Float) → le tolerance m ≡ false → seedsOf z m l v w .terms ≡ 0
-unfolding seedsOf summedOf startOf
-nothing-added z l m v w e = rw e

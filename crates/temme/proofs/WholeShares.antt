@@ -6,14 +6,14 @@ use native.Mathlib.Nat.{le-trans, mul-le-mul}
 use native.Mathlib.Omega.{arith}
 use lib.Dec.{T, lit<, lit≤}
 use lib.IntN.{pos}
-use lib.Ieee.{Float, binary64, ofBits, fits, ofInt, add, sub, mul, neg, eq}
+use lib.Ieee.{Float, binary64, ofBits, fits, add, sub, neg, eq}
 use lib.Ieee.Exact.{HasValue}
 use lib.Ieee.Fits.{add-fits, sub-fits, mul-fits, ofInt-fits}
 use Rattle.laws.proofs.Power.{unique}
 use Rattle.laws.proofs.Whole.{whole-value}
-use Rattle.laws.specs.Operators.{_⊕_, _⊖_, _⊗_, _⊘_}
+use Rattle.laws.specs.Operators.{_⊗_}
 use Rattle.circular.proofs.Whole.{add-whole, sub-whole, mul-whole}
-use Rattle.temme.specs.Shares.{term, isWhole, shareOf, squareShareOf, wholeSharesOf, sharesOf}
+use Rattle.temme.specs.shapes.Shares.{term, isWhole, shareOf, squareShareOf, wholeSharesOf, sharesOf}
 use Rattle.laws.proofs.Zero.{zeroOf, zero-is}
 
 -- ---- a whole number with a zero added or taken

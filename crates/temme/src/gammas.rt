@@ -1,5 +1,5 @@
-// 1/Γ(1+ν) by log-gamma, 1/Γ(1-ν) by the reflection formula Γ(1-ν) Γ(1+ν) = πν / sin πν (DLMF 5.5.3), their mean and their difference over 2ν.
-// From src/amos/right_half_plane.rs, one_over_sinc and compute_small_z_power_series. Promised for every f64: specs/Gammas.antt.
+// 1/Γ(1+ν) by log-gamma, 1/Γ(1-ν) by the reflection formula Γ(1-ν) Γ(1+ν) = πν / sin πν (DLMF 5.5.3), their mean and their difference over
+// 2ν. From src/amos/right_half_plane.rs, one_over_sinc and compute_small_z_power_series. Promised for every f64: specs/Gammas.antt.
 ghost use mathlib.Core.Path.{_≡_};
 ghost use mathlib.Core.Bool.{false};
 ghost use lib.Ieee.{binary64, ofBits, eq};

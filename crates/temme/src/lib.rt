@@ -2,7 +2,6 @@
 // What a call works out once, |z| and ln(2/z) among it, comes in as an argument.
 pub mod difference;
 pub mod gammas;
-pub mod hyperbolic;
 pub mod seeds;
 pub mod shares;
 pub mod sum;

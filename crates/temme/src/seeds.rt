@@ -1,13 +1,14 @@
 // The two seeds from Temme's sum, and sinh μ over the fraction with μ = fraction · ln(2/z), by which the caller tells an overflow.
-// From src/amos/right_half_plane.rs, compute_small_z_power_series (ZBKNU). Promised for every argument: specs/Seeds.antt; below |z| = 2^-52 no term is added.
+// From src/amos/right_half_plane.rs, compute_small_z_power_series (ZBKNU). Promised for every argument: specs/Seeds.antt; below |z| = 2^-52
+// no term is added.
 ghost use mathlib.Core.Path.{_≡_};
-ghost use Rattle.temme.specs.Seeds.{shincOf, begunOf, startOf, groundOf, summedOf, seedsOf};
+ghost use Rattle.temme.specs.Seeds.{shincOf, begunOf, startOf, fixedOf, summedOf, seedsOf};
 use crate::gammas::Gammas;
 use crate::gammas::gammas_at;
-use crate::hyperbolic::hyperbolic;
-use crate::sum::Ground;
+use crate::sum::Fixed;
 use crate::sum::Terms;
 use crate::sum::sum;
+use complex::functions::exp_cosh_sinh;
 use complex::number::Complex;
 use complex::number::real_over;
 use complex::power::square;
@@ -29,7 +30,7 @@ pub fn seeds(
 ) -> Temme
     ensures { λ r. ⌜ r ≡ seedsOf z modulus «ln_two_over_z» fraction «fraction_square» ⌝ }
 {
-    let h = hyperbolic(ln_two_over_z.times_real(fraction));
+    let h = exp_cosh_sinh(ln_two_over_z.times_real(fraction));
     let exp = h.exp;
     let cosh = h.cosh;
     let sinh = h.sinh;
@@ -55,8 +56,8 @@ fn over_fraction(ln_two_over_z: Complex, sinh: Complex, fraction: f64) -> Comple
     sinh.over_real(fraction)
 }
 
-// At the fraction 0 e^μ is (1, ±0) and the reciprocal gammas are 1: nothing is divided there. Both terms stand behind one test, which stays a branch:
-// behind a test of its own the first term's few divisions are done in either case, and the answer picked afterwards.
+// At the fraction 0 e^μ is (1, ±0) and the reciprocal gammas are 1: nothing is divided there. Both terms stand behind one test, which stays
+// a branch: behind a test of its own the first term's few divisions are done in either case, and the answer picked afterwards.
 fn start(g: Gammas, exp: Complex, cosh: Complex, shinc: Complex) -> Terms
     ensures { λ r. ⌜ r ≡ startOf g exp cosh shinc ⌝ }
 {
@@ -97,10 +98,10 @@ fn begun(temme_coeff: Complex, neg_order_term: Complex, pos_order_term: Complex)
     }
 }
 
-fn ground(z: Complex, modulus: f64, fraction: f64, fraction_square: f64) -> Ground
-    ensures { λ r. ⌜ r ≡ groundOf z modulus fraction «fraction_square» ⌝ }
+fn fixed(z: Complex, modulus: f64, fraction: f64, fraction_square: f64) -> Fixed
+    ensures { λ r. ⌜ r ≡ fixedOf z modulus fraction «fraction_square» ⌝ }
 {
-    Ground {
+    Fixed {
         z_sqr_over_4: square(z).times_real(0.25),
         abs_z_sqr_over_4: 0.25 * modulus * modulus,
         fraction,
@@ -113,7 +114,7 @@ fn summed(z: Complex, modulus: f64, fraction: f64, fraction_square: f64, begun: 
     ensures { λ r. ⌜ r ≡ summedOf z modulus fraction «fraction_square» begun ⌝ }
 {
     if modulus >= Machine::TOLERANCE {
-        return sum(ground(z, modulus, fraction, fraction_square), begun);
+        return sum(fixed(z, modulus, fraction, fraction_square), begun);
     }
     begun
 }

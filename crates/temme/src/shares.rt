@@ -1,8 +1,9 @@
-// The reciprocals that a term k of Temme's sum takes: of k, of k² - ν², of k - ν and of k + ν. At the fraction ν = 0 they are two, and to the term 18,
-// the last that |z| to 2 asks for, a whole number's are tabled: divisions are most of what a term costs. Promised: specs/Shares.antt.
+// The reciprocals that a term k of Temme's sum takes: of k, of k² - ν², of k - ν and of k + ν. At the fraction ν = 0 they are two, and to
+// the term 18, the last that |z| to 2 asks for, a whole number's are tabled: divisions are most of what a term costs. Promised:
+// specs/shapes/Shares.antt.
 ghost use mathlib.Core.Path.{_≡_};
 ghost use Prim.Native.Nat.{_≤_};
-ghost use Rattle.temme.specs.Shares.{isWhole, shareOf, squareShareOf, wholeSharesOf, sharesOf};
+ghost use Rattle.temme.specs.shapes.Shares.{isWhole, shareOf, squareShareOf, wholeSharesOf, sharesOf};
 
 pub struct Reciprocals {
     pub of_k: f64,

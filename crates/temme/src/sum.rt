@@ -1,6 +1,6 @@
-// Temme's sum: two series in z²/4 that share their terms, K(ν) and (z/2) K(ν+1). From src/amos/right_half_plane.rs, compute_small_z_power_series (ZBKNU).
-// Promised: specs/Sum.antt, each operation in the order of the Rust text; the step that adds a term counts it.
-// For |z| to 2 the sum leaves by its own test within 18 terms (proofs/TemmeBound.antt), so that the bound of 999 never decides.
+// Temme's sum: two series in z²/4 that share their terms, K(ν) and (z/2) K(ν+1). From src/amos/right_half_plane.rs,
+// compute_small_z_power_series (ZBKNU). Promised: specs/Sum.antt, each operation in the order of the Rust text; the step that adds a term
+// counts it. For |z| to 2 the sum leaves by its own test within 18 terms (proofs/TemmeBound.antt), so that the bound of 999 never decides.
 ghost use mathlib.Core.Path.{_≡_};
 ghost use Prim.Native.Nat.{_<_};
 ghost use Rattle.temme.specs.Sum.{nextTerms, sumOf};
@@ -9,7 +9,7 @@ use complex::number::Complex;
 use machine::constants::Machine;
 
 // What each turn takes: z²/4, |z|²/4, the fraction ν and its square.
-pub struct Ground {
+pub struct Fixed {
     pub z_sqr_over_4: Complex,
     pub abs_z_sqr_over_4: f64,
     pub fraction: f64,
@@ -28,7 +28,7 @@ pub struct Terms {
     pub terms: u32,
 }
 
-fn next(g: Ground, s: Terms) -> Terms
+fn next(g: Fixed, s: Terms) -> Terms
     requires { ⌜ s .terms < 999 ⌝ }
     ensures { λ r. ⌜ r ≡ nextTerms g s ⌝ }
 {
@@ -67,7 +67,7 @@ fn next(g: Ground, s: Terms) -> Terms
     }
 }
 
-pub fn sum(g: Ground, start: Terms) -> Terms
+pub fn sum(g: Fixed, start: Terms) -> Terms
     requires { ⌜ start .terms ≡ 0 ⌝ }
     ensures { λ r. ⌜ r ≡ sumOf g start ⌝ }
 {

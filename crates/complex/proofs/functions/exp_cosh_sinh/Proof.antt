@@ -1,30 +1,21 @@
--- `complex::functions::exp_cosh_sinh` meets its contract: one sine and one cosine serve all three. Assumes nothing.
-use Rattle.complex.specs.Functions.{polarOf, complexExpOf, complexCoshOf, complexSinhOf}
+-- `complex::functions::exp_cosh_sinh` meets its contract: at 0 the values are facts by computation. Assumes nothing.
+use mathlib.Core.Path.{sym}
+use Rattle.complex.proofs.AtZero.{AtZero, at-zero}
 use borrow.Author.Needs.{needs}
 use Rattle.complex.proofs.functions.exp_cosh_sinh.Statement.{statement}
 use Rattle.complex.proofs.functions.exp_cosh_sinh.Tie as tie
 
-sin-cos-requires : tie.Need-sin-cos-requires
-sin-cos-requires c κs = search needs
-
-exp-requires : tie.Need-exp-requires
-exp-requires c κs = search needs
-
-cosh-requires : tie.Need-cosh-requires
-cosh-requires c κs = search needs
-
-sinh-requires : tie.Need-sinh-requires
-sinh-requires c κs = search needs
-
 returns : tie.Need-returns
-unfolding polarOf complexExpOf complexCoshOf complexSinhOf
 returns c =
-    let turn = c .before .before .before .sin-cos .ensures in (
-      simp (c .before .before .exp .ensures, turn .0, turn .1),
-      simp (c .before .cosh .ensures, c .sinh .ensures, turn .0, turn .1),
-      simp (c .before .cosh .ensures, c .sinh .ensures, turn .0, turn .1),
-    )
+    let d = c .before .before .before .before in
+    let z : AtZero (d .before .args .z) = at-zero (d .before .args .z) (d .struct-known .given .0) (d .struct-known .given .1 .0) (c .before .before .before .if1 .taken) (c .before .if2 .taken) in
+    (sym (z .exp), sym (z .cosh), sym (z .sinh))
+
+off-zero-requires : tie.Need-off-zero-requires
+off-zero-requires c κs = search needs
+
+returns-2 : tie.Need-returns-2
+returns-2 c = search needs
 
 pub exp-cosh-sinh-spec : {M : Type 1} → statement M
-exp-cosh-sinh-spec =
-    tie.close (tie.spec sin-cos-requires exp-requires cosh-requires sinh-requires returns)
+exp-cosh-sinh-spec = tie.close (tie.spec returns off-zero-requires returns-2)

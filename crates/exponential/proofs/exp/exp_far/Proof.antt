@@ -7,7 +7,8 @@ use lib.Ieee.{Float, binary64, ofBits, neg, mul, le, lt, ne}
 use Rattle.laws.proofs.Order.{le-trans-float, neg-finite}
 use Rattle.laws.proofs.Bits.{bits-finite, bits-le}
 use Rattle.machine.proofs.NotANumber.{equals-itself}
-use Rattle.exponential.specs.Exp.{limit, lowerLimit, half, expFar}
+use Rattle.machine.specs.Small.{half}
+use Rattle.exponential.specs.Exp.{limit, lowerLimit, expFar}
 use Rattle.exponential.proofs.Tests.{not-above, not-below}
 use Rattle.exponential.proofs.Reduction.{one-over-nought, halved-within}
 use Rattle.exponential.proofs.exp.exp_far.Statement.{statement}
@@ -40,14 +41,13 @@ unfolding expFar
 returns-3 c = simp (c .before .before .if1 .left, c .before .if2 .left, c .if3 .taken)
 
 exp-pair-requires : tie.Need-exp-pair-requires
-unfolding half
 exp-pair-requires c κs = in-range (c .before .before .before .args .x) (c .before .before .if1 .left) (c .before .if2 .left) (c .if3 .left)
 
 squared-requires : tie.Need-squared-requires
 squared-requires c κs = search needs
 
 returns-4 : tie.Need-returns-4
-unfolding expFar half
+unfolding expFar
 returns-4 c =
     let d = c .before .before .before in
     simp (c .squared .ensures, c .before .before .exp-pair .ensures, d .before .before .if1 .left, d .before .if2 .left, d .if3 .left, c .before .if4 .taken)
@@ -56,7 +56,7 @@ squared-requires-2 : tie.Need-squared-requires-2
 squared-requires-2 c κs = search needs
 
 returns-5 : tie.Need-returns-5
-unfolding expFar half
+unfolding expFar
 returns-5 c =
     let d = c .before .before .before in
     simp (c .squared2 .ensures, c .before .before .exp-pair .ensures, d .before .before .if1 .left, d .before .if2 .left, d .if3 .left, c .before .if4 .left)

@@ -6,7 +6,7 @@ use lib.Ieee.{binary64, ofBits, neg, le, lt}
 use Rattle.laws.proofs.Order.{le-trans-float}
 use Rattle.laws.proofs.Bits.{bits-finite}
 use Rattle.machine.proofs.NotANumber.{equals-itself}
-use Rattle.exponential.specs.Exp.{half, halfExpFar}
+use Rattle.exponential.specs.Exp.{halfExpFar}
 use Rattle.exponential.proofs.Tests.{not-above, not-below}
 use Rattle.exponential.proofs.Reduction.{one-over-nought, halved-within}
 use Rattle.exponential.proofs.exp.half_exp_far.Statement.{statement}
@@ -28,7 +28,6 @@ unfolding ofBits neg le lt
 below-one = tt
 
 exp-pair-requires : tie.Need-exp-pair-requires
-unfolding half
 exp-pair-requires c κs =
     let a = c .before .before .args .a in
     let n = equals-itself a (c .before .if1 .left) in
@@ -41,7 +40,7 @@ squared-requires : tie.Need-squared-requires
 squared-requires c κs = search needs
 
 returns-3 : tie.Need-returns-3
-unfolding halfExpFar half
+unfolding halfExpFar
 returns-3 c = simp (c .squared .ensures, c .before .exp-pair .ensures, c .before .before .before .if1 .left, c .before .before .if2 .left)
 
 pub half-exp-far-spec : {M : Type 1} → statement M

@@ -4,7 +4,7 @@ use native.Mathlib.Nat.{le-trans}
 use lib.Dec.{le→leb, lit≤}
 use lib.Ieee.{inFloat}
 use Rattle.laws.proofs.Bits.{bits-no-nan}
-use Rattle.logarithm.specs.Rows.{rowOf}
+use Rattle.logarithm_tables.specs.Tables.{rowOf}
 use Rattle.logarithm.specs.Ln.{tailOf, joined, lnWide}
 use Rattle.logarithm.proofs.Width.{mantissa-high, middle-high, field-high}
 use Rattle.logarithm.proofs.ln.of_wide.Statement.{statement}

@@ -1,5 +1,5 @@
 -- `machine::bits::pattern` meets its contract: what differs from itself is `nan`, whose pattern is written. Assumes nothing.
-use mathlib.Core.Path.{_≡_, refl, sym, subst}
+use mathlib.Core.Path.{refl, sym, subst}
 use borrow.Author.Needs.{needs}
 use lib.Dec.{T}
 use lib.Ieee.{toBits}

@@ -1,6 +1,6 @@
 -- `miller::search::correction` meets its contract: none on the real path, and else the angle's. Assumes nothing.
 use mathlib.Core.Path.{sym, _∙_}
-use Rattle.miller.specs.Search.{correctionOf}
+use Rattle.miller.specs.shapes.Correction.{correctionOf}
 use borrow.Author.Needs.{needs}
 use Rattle.miller.proofs.search.correction.Statement.{statement}
 use Rattle.miller.proofs.search.correction.Tie as tie

@@ -1,6 +1,7 @@
 -- `miller::search::raw_start` meets its contract: the real path takes no correction, and off it the number handed in is the angle's. Assumes nothing.
 use mathlib.Core.Path.{sym, _∙_}
-use Rattle.miller.specs.Search.{correctionOf, rawStart}
+use Rattle.miller.specs.Search.{rawStart}
+use Rattle.miller.specs.shapes.Correction.{correctionOf}
 use borrow.Author.Needs.{needs}
 use Rattle.miller.proofs.search.raw_start.Statement.{statement}
 use Rattle.miller.proofs.search.raw_start.Tie as tie

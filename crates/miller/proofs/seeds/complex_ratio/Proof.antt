@@ -1,12 +1,13 @@
 -- `miller::seeds::complex_ratio` meets its contract: the definition's operations, one after the other. Assumes nothing.
 use Rattle.miller.specs.Backward.{onRealLine}
 use Rattle.miller.specs.Seeds.{complexRatio}
+use Rattle.miller.specs.shapes.Ratio.{ratioUnless}
 use borrow.Author.Needs.{needs}
 use Rattle.miller.proofs.seeds.complex_ratio.Statement.{statement}
 use Rattle.miller.proofs.seeds.complex_ratio.Tie as tie
 
 returns : tie.Need-returns
-unfolding complexRatio onRealLine
+unfolding ratioUnless onRealLine
 returns c = simp (c .if1 .taken)
 
 modulus-requires : tie.Need-modulus-requires
@@ -40,20 +41,22 @@ plus-real-requires-3 : tie.Need-plus-real-requires-3
 plus-real-requires-3 c κs = search needs
 
 returns-2 : tie.Need-returns-2
-unfolding complexRatio
-returns-2 c = simp (
-  c .plus-real3 .ensures,
-  c .before .quotient .ensures,
-  c .before .before .plus-real2 .ensures,
-  c .before .before .before .plus-real .ensures,
-  c .before .before .before .before .opposite .ensures,
-  c .before .before .before .before .before .product .ensures,
-  c .before .before .before .before .before .before .over-real2 .ensures,
-  c .before .before .before .before .before .before .before .conjugate .ensures,
-  c .before .before .before .before .before .before .before .before .over-real .ensures,
-  c .before .before .before .before .before .before .before .before .before .modulus .ensures,
-  c .before .before .before .before .before .before .before .before .before .before .before .before .if1 .left,
-)
+unfolding ratioUnless complexRatio
+returns-2 c =
+    let d = c .before .before .before .before .before in
+    simp (
+      c .plus-real3 .ensures,
+      c .before .quotient .ensures,
+      c .before .before .plus-real2 .ensures,
+      c .before .before .before .plus-real .ensures,
+      c .before .before .before .before .opposite .ensures,
+      d .product .ensures,
+      d .before .over-real2 .ensures,
+      d .before .before .conjugate .ensures,
+      d .before .before .before .over-real .ensures,
+      d .before .before .before .before .modulus .ensures,
+      d .before .before .before .before .before .before .before .if1 .left,
+    )
 
 pub complex-ratio-spec : {M : Type 1} → statement M
 complex-ratio-spec =

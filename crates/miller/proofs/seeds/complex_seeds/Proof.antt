@@ -1,5 +1,11 @@
 -- `miller::seeds::complex_seeds` meets its contract: the definition's operations, one after the other. Assumes nothing.
-use Rattle.miller.specs.Seeds.{complexFirstSeed, complexSeeds}
+use mathlib.Core.Path.{_≡_, refl}
+use mathlib.Core.Bool.{Bool, true, false}
+use lib.Ieee.{Float}
+use Rattle.complex.specs.declared.number.Complex.{Complex}
+use Rattle.miller.specs.declared.backward.ComplexSteps.{ComplexSteps}
+use Rattle.miller.specs.Seeds.{complexFirstSeed, complexSecond, complexSeeds}
+use Rattle.miller.specs.shapes.Ratio.{ratioUnless, productUnless}
 use borrow.Author.Needs.{needs}
 use Rattle.miller.proofs.seeds.complex_seeds.Statement.{statement}
 use Rattle.miller.proofs.seeds.complex_seeds.Tie as tie
@@ -31,19 +37,28 @@ product-requires-2 c κs = search needs
 complex-second-requires : tie.Need-complex-second-requires
 complex-second-requires c κs = search needs
 
+-- the ratio is asked for only where its product is
+second-is : (alone : Bool) (z : Complex) (fraction : Float) (s : ComplexSteps) (first : Complex) → productUnless alone (ratioUnless alone z fraction s) first ≡ complexSecond alone z fraction s first
+unfolding productUnless ratioUnless complexSecond
+second-is true z fraction s first = refl
+second-is false z fraction s first = refl
+
 returns : tie.Need-returns
 unfolding complexSeeds complexFirstSeed
-returns c = simp (
-  c .complex-second .ensures,
-  c .before .product2 .ensures,
-  c .before .before .product .ensures,
-  c .before .before .before .over-real2 .ensures,
-  c .before .before .before .before .over-real .ensures,
-  c .before .before .before .before .before .conjugate .ensures,
-  c .before .before .before .before .before .before .modulus .ensures,
-  c .before .before .before .before .before .before .before .complex-ratio .ensures,
-  c .before .before .before .before .before .before .before .before .before .before .complex-steps .ensures,
-)
+returns c =
+    let d = c .before .before .before .before .before in
+    simp (
+      c .complex-second .ensures,
+      c .before .product2 .ensures,
+      c .before .before .product .ensures,
+      c .before .before .before .over-real2 .ensures,
+      c .before .before .before .before .over-real .ensures,
+      d .conjugate .ensures,
+      d .before .modulus .ensures,
+      d .before .before .complex-ratio .ensures,
+      d .before .before .before .before .before .complex-steps .ensures,
+      second-is,
+    )
 
 pub complex-seeds-spec : {M : Type 1} → statement M
 complex-seeds-spec =

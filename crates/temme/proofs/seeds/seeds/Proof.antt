@@ -9,8 +9,8 @@ use Rattle.temme.proofs.seeds.seeds.Tie as tie
 times-real-requires : tie.Need-times-real-requires
 times-real-requires c κs = search needs
 
-hyperbolic-requires : tie.Need-hyperbolic-requires
-hyperbolic-requires c κs = search needs
+exp-cosh-sinh-requires : tie.Need-exp-cosh-sinh-requires
+exp-cosh-sinh-requires c κs = search needs
 
 over-fraction-requires : tie.Need-over-fraction-requires
 over-fraction-requires c κs = search needs
@@ -35,9 +35,9 @@ returns c =
       d .before .start .ensures,
       d .before .before .gammas-at .ensures,
       d .before .before .before .over-fraction .ensures,
-      e .hyperbolic .ensures .0,
-      e .hyperbolic .ensures .1,
-      e .hyperbolic .ensures .2,
+      e .exp-cosh-sinh .ensures .0,
+      e .exp-cosh-sinh .ensures .1,
+      e .exp-cosh-sinh .ensures .2,
       e .before .times-real .ensures,
     )
 
@@ -46,7 +46,7 @@ seeds-spec =
     tie.close
     (tie.spec
     times-real-requires
-    hyperbolic-requires
+    exp-cosh-sinh-requires
     over-fraction-requires
     gammas-at-requires
     start-requires

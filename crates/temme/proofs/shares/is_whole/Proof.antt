@@ -1,5 +1,5 @@
 -- `temme::shares::is_whole` meets its contract. Assumes nothing.
-use Rattle.temme.specs.Shares.{isWhole}
+use Rattle.temme.specs.shapes.Shares.{isWhole}
 use Rattle.temme.proofs.shares.is_whole.Statement.{statement}
 use Rattle.temme.proofs.shares.is_whole.Tie as tie
 

@@ -1,7 +1,7 @@
 -- `temme::shares::share` meets its contract, by computation at each of its 18 entries. Assumes nothing.
 use mathlib.Core.Path.{refl}
 use lib.Ieee.{ofBits, ofInt, div}
-use Rattle.temme.specs.Shares.{shareOf}
+use Rattle.temme.specs.shapes.Shares.{shareOf}
 use borrow.Author.Needs.{needs}
 use Rattle.temme.proofs.shares.share.Statement.{statement}
 use Rattle.temme.proofs.shares.share.Tie as tie

@@ -1,7 +1,7 @@
 -- `temme::shares::shares` meets its contract: at the fraction 0 by the law of whole numbers. Assumes nothing.
 use mathlib.Core.Path.{sym, _∙_, subst}
 use lib.Dec.{T}
-use Rattle.temme.specs.Shares.{sharesOf}
+use Rattle.temme.specs.shapes.Shares.{sharesOf}
 use Rattle.temme.proofs.WholeShares.{shares-at-zero}
 use borrow.Author.Needs.{needs}
 use Rattle.temme.proofs.shares.shares.Statement.{statement}

@@ -1,7 +1,7 @@
 -- `temme::shares::square_share` meets its contract, by computation at each of its 18 entries. Assumes nothing.
 use mathlib.Core.Path.{refl}
 use lib.Ieee.{ofBits, ofInt, mul, div}
-use Rattle.temme.specs.Shares.{squareShareOf}
+use Rattle.temme.specs.shapes.Shares.{squareShareOf}
 use borrow.Author.Needs.{needs}
 use Rattle.temme.proofs.shares.square_share.Statement.{statement}
 use Rattle.temme.proofs.shares.square_share.Tie as tie

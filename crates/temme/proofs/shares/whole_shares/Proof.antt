@@ -1,5 +1,5 @@
 -- `temme::shares::whole_shares` meets its contract. Assumes nothing.
-use Rattle.temme.specs.Shares.{wholeSharesOf}
+use Rattle.temme.specs.shapes.Shares.{wholeSharesOf}
 use borrow.Author.Needs.{needs}
 use Rattle.temme.proofs.shares.whole_shares.Statement.{statement}
 use Rattle.temme.proofs.shares.whole_shares.Tie as tie

@@ -1,6 +1,6 @@
 -- `temme::sum::next` meets its contract. Assumes nothing.
 use native.Mathlib.Omega.{arith}
-use Rattle.temme.specs.Shares.{shareOf, sharesOf}
+use Rattle.temme.specs.shapes.Shares.{shareOf, sharesOf}
 use Rattle.temme.specs.Sum.{nextMagnitude, nextTerms}
 use borrow.Author.Needs.{needs}
 use Rattle.temme.proofs.sum.next.Statement.{statement}

@@ -3,7 +3,7 @@ use mathlib.Core.Path.{_≡_, refl, sym, ap, _∙_}
 use Prim.Native.Nat.{ℕ, _+_, _-_, _≤_, _<_}
 use native.Mathlib.Omega.{arith}
 use Rattle.machine.specs.Constants.{tolerance}
-use Rattle.temme.specs.declared.sum.Ground.{Ground}
+use Rattle.temme.specs.declared.sum.Fixed.{Fixed}
 use Rattle.temme.specs.declared.sum.Terms.{Terms}
 use Rattle.temme.specs.Sum.{nextTerms, isSummed, sumOf}
 use Rattle.temme.proofs.Counted.{left, left-start, left-next, left-stop, left-end}
@@ -13,7 +13,7 @@ use Rattle.temme.proofs.sum.sum.Tie as tie
 abbrev count : Terms → ℕ
 count s = s .terms
 
-counts : (g : Ground) (s : Terms) → nextTerms g s .terms ≡ s .terms + 1
+counts : (g : Fixed) (s : Terms) → nextTerms g s .terms ≡ s .terms + 1
 unfolding nextTerms
 counts g s = refl
 

@@ -11,9 +11,9 @@ use Rattle.refusal.specs.declared.refusal.Refusal.the-variants.{Length, NotFini
 use Rattle.roots.specs.Hypot.{hypotOf}
 use Rattle.complex.specs.Functions.{modulusOf}
 use Rattle.complex.specs.Lost.{magnitudeOf}
-use Rattle.power_series.specs.Orders.{orderAt, orderPlusOne, beyondSeries}
+use Rattle.series_step.specs.Setting.{orderAt, orderPlusOne}
+use Rattle.power_series.specs.Series.{beyondSeries, powerSeriesIf, powerSeriesOf}
 use Rattle.power_series.specs.Tiny.{lowestOf, zerosOf, tinyOf}
-use Rattle.power_series.specs.Series.{powerSeriesIf, powerSeriesOf}
 use Rattle.bessel.specs.declared.classify.Kind.{Kind}
 use Rattle.bessel.specs.declared.classify.Kind.the-variants.{K, I}
 use Rattle.bessel.specs.declared.classify.Verdict.the-variants.{Refused}

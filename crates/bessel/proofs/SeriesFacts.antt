@@ -1,58 +1,23 @@
--- What the power series over n orders leaves of its counts and cells, the small arguments included. Assumes nothing.
+-- The counts of a visit into a lent buffer, and its judgement. Assumes nothing.
 use mathlib.Core.Path.{_≡_, sym, ap, _∙_, subst}
-use mathlib.Core.Bool.{Bool, true, false, cond}
+use mathlib.Core.Bool.{Bool, true}
 use mathlib.Core.List.{List}
-use Prim.Native.Nat.{ℕ, _+_, _-_, _*_, _/_, _≤_, _<_}
+use Prim.Native.Nat.{ℕ, _-_, _*_, _/_, _≤_}
 use native.Mathlib.Omega.{arith}
 use lib.IntN.{ℤ}
-use lib.ListN.{length, length-replicate}
-use lib.Ieee.{Float, binary64, ofBits, lt, eq}
-use Rattle.machine.specs.Constants.{underflowLimit}
+use lib.ListN.{length}
+use lib.Ieee.{Float}
 use Rattle.complex.specs.declared.number.Complex.{Complex}
-use Rattle.power_series.specs.Ground.{groundOf}
 use Rattle.power_series.specs.declared.visit.Visit.{Visit}
-use Rattle.power_series.specs.Visit.{Visited, visitedOf, visitOf}
-use Rattle.power_series.specs.Tiny.{zerosOf, tinyOf}
-use Rattle.power_series.specs.Series.{powerSeriesIf, powerSeriesOf}
-use Rattle.power_series.proofs.VisitFacts.{orders-counted, cells-length}
+use Rattle.power_series.specs.Visit.{Visited}
+use Rattle.power_series.specs.Series.{powerSeriesOf}
+use Rattle.power_series.proofs.SeriesFacts.{series-fits}
 use Rattle.bessel.specs.declared.answer.Answer.{Answer}
 use Rattle.bessel.specs.Arguments.{lengthInside}
 use Rattle.bessel.specs.Answer.{signedOf, answeredOf}
 use Rattle.bessel.specs.Outcome.{judgedOf}
 use Rattle.bessel.specs.I.{visitAnswer, visitedOutcome}
 use Rattle.bessel.proofs.LengthFacts.{lent}
-
--- as many entries as orders, no more of them zeros, and the place of the stop among them
-pub record Fitting (n : ℕ) (w : Visited) : Type 0 where
-  pub zeros : w .visit .zeros ≤ n
-  pub place : w .visit .place ≤ n
-  pub cells : length (w .cells) ≡ n * 2
-
-module _ (n : ℕ) (some : 0 < n) where
-  picked : (a b : Bool) → cond a 0 (cond b (n - 1) n) ≤ n
-  picked true b = omega arith
-  picked false true = omega arith
-  picked false false = omega arith
-
-  tiny-fits : (v m : Float) → Fitting n (tinyOf v m n)
-  unfolding tinyOf zerosOf
-  tiny-fits v m = record {
-    zeros = picked (eq m (ofBits binary64 0)) (eq v (ofBits binary64 0));
-    place = omega arith;
-    cells = simp length-replicate (omega arith);
-  }
-
-  series-if : (b scaled turned : Bool) (v : Float) (z : Complex) (m : Float) → Fitting n (powerSeriesIf b scaled turned v z m n)
-  unfolding powerSeriesIf visitOf visitedOf
-  series-if true scaled turned v z m = tiny-fits v m
-  series-if false scaled turned v z m =
-      let g = groundOf scaled turned v z m in
-      let counted = orders-counted g n in
-      record { zeros = omega arith; place = omega arith; cells = cells-length g n }
-
-  pub series-fits : (scaled turned : Bool) (v : Float) (z : Complex) (m : Float) → Fitting n (powerSeriesOf scaled turned v z m n)
-  unfolding powerSeriesOf
-  series-fits scaled turned v z m = series-if (lt m underflowLimit) scaled turned v z m
 
 -- the counts of a visit into a buffer that is let in
 pub counts-small :

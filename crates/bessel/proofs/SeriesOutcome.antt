@@ -15,8 +15,8 @@ use Rattle.refusal.specs.Number.{numberOf}
 use Rattle.refusal.specs.declared.refusal.Refusal.{Refusal}
 use Rattle.refusal.specs.declared.refusal.Refusal.the-variants.{Overflow}
 use Rattle.power_series.specs.Visit.{Visited}
-use Rattle.power_series.specs.Orders.{beyondSeries}
-use Rattle.power_series.specs.Series.{powerSeriesOf}
+use Rattle.power_series.specs.Series.{beyondSeries, powerSeriesOf}
+use Rattle.power_series.proofs.SeriesFacts.{series-fits}
 use Rattle.bessel.specs.declared.answer.Answer.{Answer}
 use Rattle.bessel.specs.declared.arguments.Arguments.{Arguments}
 use Rattle.bessel.specs.declared.classify.Kind.the-variants.{I}
@@ -31,7 +31,6 @@ use Rattle.bessel.specs.I.{visitAnswer, visitedOutcome, seriesOutcome, i
 use Rattle.refusal.proofs.Distinct.{never-zero}
 use Rattle.bessel.proofs.LengthFacts.{lent}
 use Rattle.bessel.proofs.ClassifyFacts.{Passed, admitted}
-use Rattle.bessel.proofs.SeriesFacts.{series-fits}
 use Rattle.bessel.proofs.OutcomeFacts.{no-other, judged-number, later, is-none, is-eight, RefusedWhole, refused-facts}
 use Rattle.bessel.proofs.Numbers.{Exactly, domainInside, passes, givenOf, Later, numbered}
 

@@ -3,7 +3,7 @@ use mathlib.Core.Bool.{Bool, false, not, cond}
 use mathlib.Core.List.{List, [], _∷_}
 use Prim.Native.Nat.{ℕ, _/_}
 use lib.Ieee.{Float}
-use Rattle.power_series.specs.Orders.{beyondSeries}
+use Rattle.power_series.specs.Series.{beyondSeries}
 use Rattle.refusal.specs.declared.refusal.Refusal.{Refusal}
 use Rattle.refusal.specs.declared.refusal.Refusal.the-variants.{Length, NotFinite, Domain, Zero, Series}
 use Rattle.bessel.specs.declared.arguments.Arguments.{Arguments}

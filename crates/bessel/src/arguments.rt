@@ -2,7 +2,7 @@
 // From docs/SCOPE.md, Domain and refusals. Promised: each condition is its definition in specs/Arguments.antt, for every f64.
 ghost use mathlib.Core.Path.{_≡_};
 ghost use Prim.Native.Nat.{_<_};
-ghost use Rattle.power_series.specs.Orders.{beyondSeries};
+ghost use Rattle.power_series.specs.Series.{beyondSeries};
 ghost use Rattle.bessel.specs.Arguments.{normalisedOf, argumentsOf, lengthInside, areFinite, orderInside, signInside, sizeInside, isZero};
 use complex::lost::magnitude;
 use complex::number::Complex;

@@ -1,6 +1,7 @@
 -- `bessel::arguments::Arguments::beyond_series` meets its contract: the same operations in the same order. Assumes nothing.
 use mathlib.Core.Path.{refl}
-use Rattle.power_series.specs.Orders.{orderAt, orderPlusOne, beyondSeries}
+use Rattle.series_step.specs.Setting.{orderAt, orderPlusOne}
+use Rattle.power_series.specs.Series.{beyondSeries}
 use borrow.Author.Needs.{needs}
 use Rattle.bessel.proofs.arguments.Arguments.beyond_series.Statement.{statement}
 use Rattle.bessel.proofs.arguments.Arguments.beyond_series.Tie as tie

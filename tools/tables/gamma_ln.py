@@ -56,7 +56,7 @@ def proof(row, table):
     function, name, index, size, _ = row
     place = 'Rattle.gamma_ln_tables.proofs.tables.%s' % function
     needs = ['returns'] + ['returns-%d' % k for k in range(2, size + 1)]
-    out = ['-- `gamma_ln_tables::tables::%s` meets its contract, at each of its %d entries. Written by tools/tables/gamma_ln.py. Assumes nothing.' % (function, size)]
+    out = ['-- `gamma_ln_tables::tables::%s` meets its contract at each of %d entries. Written by tools/tables/gamma_ln.py. Assumes nothing.' % (function, size)]
     # the source has a minus sign where the definition has the sign's bit
     out += ['use lib.Ieee.{ofBits, neg}'] * (min(table) < 0)
     out += ['use Rattle.laws.proofs.Arms.{last}', 'use Rattle.gamma_ln_tables.specs.Tables.{%s}' % name, 'use %s.Statement.{statement}' % place, 'use %s.Tie as tie' % place]

@@ -1,4 +1,5 @@
--- Arguments above zero: a whole one up to 100.1 is an index of the table, and one below 7 is shifted by a whole number from 0 to 7. Assumes nothing.
+-- Arguments above zero: a whole one up to 100.1 is an index of the table, and one below 7 is shifted by a whole number from 0 to 7. Assumes
+-- nothing.
 use mathlib.Core.Path.{_≡_, refl, sym, ap, _∙_, subst}
 use Prim.Native.Nat.{ℕ, zero, suc, _+_, _-_, _*_, _^_, _≤_, _<_}
 use native.Mathlib.Nat.{zero-lt-suc, mul-one, mul-right-comm, mul-le-mul-right, eq-of-mul-eq-mul-right}

@@ -1,4 +1,5 @@
--- The series is summed at 6.5 or above, for every argument above zero: a shifted argument is rounded to 7, and lies within a half of it. Assumes nothing.
+-- The series is summed at 6.5 or above, for every argument above zero: a shifted argument is rounded to 7, and lies within a half of it.
+-- Assumes nothing.
 use mathlib.Core.Path.{_≡_, refl, sym, ap, _∙_, subst}
 use mathlib.Core.Bool.{Bool, true, false, cond}
 use Prim.Native.Nat.{ℕ, _+_, _-_, _*_, _^_, _≤_}

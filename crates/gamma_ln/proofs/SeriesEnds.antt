@@ -1,5 +1,6 @@
 -- The series ends by its own test: from 6.5 on the term with coefficient 14 is below 2^-52 of the first, wherever 1 / z is 2^-52 or above.
--- With p = 1 / z at most 0.155 its square is below 5 / 208, so that a power is at most (5 / 208)^j of p, and the bound at least 0.082 * 2^-52 of p. Assumes nothing.
+-- With p = 1 / z at most 0.155 its square is below 5 / 208, so that a power is at most (5 / 208)^j of p, and the bound at least 0.082 *
+-- 2^-52 of p. Assumes nothing.
 use mathlib.Core.Path.{_≡_, refl, sym, ap, _∙_, subst}
 use mathlib.Core.Logic.{_⊎_, inl, inr}
 use mathlib.Core.Bool.{Bool, true, false, cond, true≢false}
@@ -19,8 +20,8 @@ use Rattle.laws.proofs.Order.{mul-comm-float}
 use Rattle.laws.proofs.Relative.{nonnegative}
 use Rattle.laws.proofs.Bound.{Up, Lo, Span, up-test, lo-test, up-weaken, lo-of-le, up-of, lo-of, up-one, lo-one, span-of, range-test, mul-up, div-up, upTest, mul-up-by, mul-lo-by, up-lo-lt-by, every-at}
 use Rattle.machine.specs.Constants.{tolerance}
-use Rattle.gamma_ln.specs.declared.series.Terms.{Terms}
 use Rattle.gamma_ln_tables.specs.Tables.{coefficients}
+use Rattle.gamma_ln.specs.declared.series.Terms.{Terms}
 use Rattle.gamma_ln.specs.Series.{isBelow, nextPower, nextTerm, withNext, isDone, firstOf, furtherOf, inverseOf, squareOf, firstTermOf, boundOf, seriesOf, EndsByTest}
 
 -- ---- 1 / z and its square

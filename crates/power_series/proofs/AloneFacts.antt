@@ -1,4 +1,5 @@
--- The visit of the one order 0, unscaled: ln of the leading term is a zero in each part, its exponential is 1 with a zero beside it, and the product with the sum is the sum. Assumes nothing.
+-- The visit of the one order 0, unscaled: ln of the leading term is a zero in each part, its exponential is 1 with a zero beside it, and
+-- the product with the sum is the sum. Assumes nothing.
 use mathlib.Core.Path.{_≡_, refl, sym, ap, _∙_, subst}
 use mathlib.Core.Bool.{Bool, true, false}
 use mathlib.Core.List.{List, [], _∷_}
@@ -12,28 +13,28 @@ use lib.Ieee.Fits.{mul-fits}
 use lib.Ieee.Scale.{finite}
 use borrow.Author.Tests.{lt-ltb}
 use Rattle.laws.proofs.Run.{run-on, run-out}
+use Rattle.laws.proofs.Zero.{zeroOf, zero-is}
 use Rattle.machine.specs.Constants.{exponentLimit, approximationLimit}
+use Rattle.machine.specs.Small.{one, half}
 use Rattle.complex.specs.declared.number.Complex.{Complex}
 use Rattle.complex.specs.Arithmetic.{productOf, timesReal, minusReal}
 use Rattle.complex.specs.Functions.{modulusOf}
 use Rattle.complex.proofs.AtZero.{exp-zeros}
 use Rattle.complex.proofs.LnFacts.{complex-ln-finite}
 use Rattle.gamma_ln.proofs.AtOne.{log-gamma-at-one}
+use Rattle.series_sum.specs.declared.sum.Sum.{Sum}
+use Rattle.series_sum.specs.Sum.{sumOf}
 use Rattle.series_step.specs.declared.setting.Setting.{Setting}
 use Rattle.series_step.specs.declared.descent.Descent.{Descent}
-use Rattle.series_sum.specs.declared.sum.Sum.{Sum}
-use Rattle.machine.specs.Small.{one, half}
 use Rattle.series_step.specs.Setting.{orderAt, halfSquare, turnedOf, squareOf, settingOf}
-use Rattle.series_sum.specs.Sum.{sumOf}
-use Rattle.power_series.specs.shapes.Alone.{Something, Plain}
 use Rattle.series_step.specs.Descent.{startDescent}
 use Rattle.series_step.specs.Leading.{loweredIf, leadingOf}
 use Rattle.series_step.specs.Mark.{markOf, scaleOf, longestOf, markedOf}
 use Rattle.series_step.specs.Seed.{coefficientIf, coefficientOf, isGone, keptOf, goneIf, summedOf, seedIf, seedOf}
 use Rattle.series_step.specs.Step.{stepIf, stepOf}
 use Rattle.power_series.specs.Visit.{Visited, startWalk, isStopped, withEntry, nextWalk, walkOf, visitedOf, visitOf}
+use Rattle.power_series.specs.shapes.Alone.{Something, Plain}
 use Rattle.power_series.proofs.WalkFacts.{stopping, stepping}
-use Rattle.laws.proofs.Zero.{zeroOf, zero-is}
 use Rattle.power_series.proofs.UnitFacts.{mul-one-float, mul-zero-float, sub-zero-float, zero-add-float}
 
 -- ---- values at the zeros
@@ -79,15 +80,15 @@ longest-first zero = refl
 longest-first (suc n) = rw (lt-ltb 0 (suc n) (zero-lt-suc n))
 
 -- ---- the visit
-abbrev ground : Bool → Float → Complex → Float → Setting
-ground turned v z m = settingOf false turned v z m
+abbrev setting : Bool → Float → Complex → Float → Setting
+setting turned v z m = settingOf false turned v z m
 
 abbrev pub sumAt : Bool → Float → Complex → Float → Sum
-sumAt turned v z m = sumOf (orderAt v 0) (ground turned v z m .«half_z_sq») (ground turned v z m .«abs_half_z_sq»)
+sumAt turned v z m = sumOf (orderAt v 0) (setting turned v z m .«half_z_sq») (setting turned v z m .«abs_half_z_sq»)
 
 module _ (turned : Bool) (v : Float) (z : Complex) (m : Float) (s : Bool) (nought : v ≡ zeroOf s) where
   abbrev g : Setting
-  g = ground turned v z m
+  g = setting turned v z m
 
   abbrev order : Float
   order = orderAt v 0

@@ -1,4 +1,5 @@
--- The two highest orders of a visit seeded far from underflow, and the recurrence after them: what each step of the visit is there. Assumes nothing.
+-- The two highest orders of a visit seeded far from underflow, and the recurrence after them: what each step of the visit is there. Assumes
+-- nothing.
 use mathlib.Core.Path.{_≡_, refl, sym, ap, _∙_, subst}
 use mathlib.Core.Bool.{Bool, true, false, _||_}
 use mathlib.Core.List.{List}
@@ -13,12 +14,12 @@ use Rattle.machine.specs.Constants.{exponentLimit, approximationLimit}
 use Rattle.complex.specs.declared.number.Complex.{Complex}
 use Rattle.complex.specs.Arithmetic.{productOf}
 use Rattle.complex.specs.Functions.{complexExpOf}
-use Rattle.series_step.specs.declared.setting.Setting.{Setting}
 use Rattle.series_sum.specs.declared.sum.Sum.{Sum}
+use Rattle.series_sum.specs.Sum.{sumOf}
+use Rattle.series_step.specs.declared.setting.Setting.{Setting}
 use Rattle.series_step.specs.declared.descent.Tally.{Tally}
 use Rattle.series_step.specs.declared.descent.Descent.{Descent}
 use Rattle.series_step.specs.Setting.{orderAt}
-use Rattle.series_sum.specs.Sum.{sumOf}
 use Rattle.series_step.specs.Descent.{startDescent}
 use Rattle.series_step.specs.Leading.{leadingOf}
 use Rattle.series_step.specs.Mark.{markOf, markedOf}
@@ -168,4 +169,5 @@ module _ (g : Setting) (k : ℕ) (s : Descent) where
       let low : left ≤ n = w .low in
       let zeros : s .counts .zeros + left ≤ n = w .zeros in
       let rungs : s .counts .rungs + left ≤ n = w .rungs in
-      subst (λ (b : Bool). Settled n (left - 1) (recurredIf b (backwardOf g k (s .«y_k_plus_2») (s .«y_k_plus_1»)) counted s)) (sym (w .off)) (record { seeded = w .seeded; off = refl; goes = refl; low = omega arith; zeros = omega arith; rungs = omega arith })
+      subst (λ (b : Bool). Settled n (left - 1) (recurredIf b (backwardOf g k (s .«y_k_plus_2») (s .«y_k_plus_1»)) counted s)) (sym (w .off))
+      (record { seeded = w .seeded; off = refl; goes = refl; low = omega arith; zeros = omega arith; rungs = omega arith })

@@ -1,4 +1,5 @@
--- Sums with a zero and products with 1 and with a zero: which of them give the other operand back, and which a zero. General: for any f64. Assumes nothing.
+-- Sums with a zero and products with 1 and with a zero: which of them give the other operand back, and which a zero. General: for any f64.
+-- Assumes nothing.
 use mathlib.Core.Path.{_≡_, refl, sym, ap, _∙_}
 use mathlib.Core.Bool.{Bool, true, false, true≢false}
 use Prim.Native.Nat.{ℕ, zero, suc, _+_, _*_, _^_, _≤_, _<_}

@@ -1,6 +1,7 @@
--- Every order at which the I visit takes a sum meets what the sum asks. With u the order plus one and x the square of |z/2|: at the top order refusal 5 gives x ≤ u (1 + 1/4096);
--- an order set to zero did not stop the visit, so x is at most that order, which is u one order lower but for rounding; and one seed gives x ≤ (u + 1)(1 + 1/1024) one order lower.
--- Orders are v + k with 0 ≤ v ≤ 1000 and k ≤ 511, and |z| ≤ 2^16. Assumes nothing.
+-- Every order at which the I visit takes a sum meets what the sum asks. With u the order plus one and x the square of |z/2|: at the top
+-- order refusal 5 gives x ≤ u (1 + 1/4096); an order set to zero did not stop the visit, so x is at most that order, which is u one order
+-- lower but for rounding; and one seed gives x ≤ (u + 1)(1 + 1/1024) one order lower. Orders are v + k with 0 ≤ v ≤ 1000 and k ≤ 511, and
+-- |z| ≤ 2^16. Assumes nothing.
 use mathlib.Core.Path.{_≡_}
 use mathlib.Core.Logic.{inl, inr}
 use mathlib.Core.Bool.{Bool, true, false, not}
@@ -17,9 +18,9 @@ use Rattle.laws.proofs.Bound.{Up, Lo, Span, up-test, lo-test, up-of, lo-of, lo-
 use Rattle.laws.proofs.Whole.{whole-up, whole-lo}
 use Rattle.machine.specs.Small.{one, half, quarter}
 use Rattle.series_sum.specs.Sum.{sumIsOne}
+use Rattle.series_sum.proofs.SumBound.{Summed, one-up}
 use Rattle.series_step.specs.Setting.{orderAt, orderPlusOne, halfSquare}
 use Rattle.power_series.specs.Series.{beyondSeries}
-use Rattle.series_sum.proofs.SumBound.{Summed, one-up}
 
 -- x against u: where no order is seeded yet, and where one is
 abbrev pub Below : Bool → Float → Float → Type 0

@@ -1,6 +1,6 @@
--- What the visit of n orders leaves: its cells, 2 to each order; where it stopped, an entry of 0 and below it the fixed not-a-number; each order
--- from there up counted once, as a zero, a seed or a step of the recurrence; no step before two seeds, and no sum of more than 19 terms.
--- Assumes nothing.
+-- What the visit of n orders leaves: its cells, 2 to each order; where it stopped, an entry of 0 and below it the fixed not-a-number; each
+-- order from there up counted once, as a zero, a seed or a step of the recurrence; no step before two seeds, and no sum of more than 19
+-- terms. Assumes nothing.
 use mathlib.Core.Path.{_≡_, refl, sym, ap, _∙_}
 use mathlib.Core.Logic.{_⊎_, inl, inr}
 use mathlib.Core.Bool.{true, false}
@@ -18,8 +18,8 @@ use Rattle.series_step.specs.declared.setting.Setting.{Setting}
 use Rattle.series_step.specs.declared.descent.Descent.{Descent}
 use Rattle.series_step.specs.Descent.{startDescent}
 use Rattle.series_step.specs.Step.{stepOf}
-use Rattle.power_series.specs.Visit.{Walk, startWalk, isStopped, withEntry, nextWalk, walkOf, visitedOf, visitOf}
 use Rattle.series_step.proofs.StepFacts.{zeroed, kept, recurred, did}
+use Rattle.power_series.specs.Visit.{Walk, startWalk, isStopped, withEntry, nextWalk, walkOf, visitedOf, visitOf}
 use Rattle.power_series.proofs.WalkFacts.{stopping, stepping}
 
 abbrev nought : Float

@@ -1,4 +1,5 @@
--- Every sum that a visit begins, after refusal 5's test, leaves by its own test, after 19 terms at most: each order at which a seed is still wanted is one that the visit reaches past zeroed orders and past one seed. Assumes nothing.
+-- Every sum that a visit begins, after refusal 5's test, leaves by its own test, after 19 terms at most: each order at which a seed is
+-- still wanted is one that the visit reaches past zeroed orders and past one seed. Assumes nothing.
 use mathlib.Core.Path.{_≡_, refl, sym, ap, _∙_, subst}
 use mathlib.Core.Bool.{Bool, true, false}
 use Prim.Native.Nat.{ℕ, suc, _+_, _-_, _^_, _≤_, _<_}
@@ -10,18 +11,18 @@ use Rattle.laws.specs.Run.{run}
 use Rattle.laws.proofs.Run.{run-ends}
 use Rattle.laws.proofs.Bound.{Up}
 use Rattle.complex.specs.declared.number.Complex.{Complex}
+use Rattle.series_sum.specs.Sum.{sumIsOne}
+use Rattle.series_sum.proofs.SumEnds.{EndsByTest, sum-ends}
 use Rattle.series_step.specs.declared.setting.Setting.{Setting}
 use Rattle.series_step.specs.declared.descent.Descent.{Descent}
-use Rattle.series_sum.specs.Sum.{sumIsOne}
 use Rattle.series_step.specs.Setting.{orderAt, orderPlusOne, halfSquare, settingOf}
-use Rattle.power_series.specs.Series.{beyondSeries}
 use Rattle.series_step.specs.Descent.{startDescent}
 use Rattle.series_step.specs.Step.{stepOf}
+use Rattle.series_step.proofs.StepFacts.{Zeroed, Kept, Did, zeroed, kept, recurred, did}
+use Rattle.power_series.specs.Series.{beyondSeries}
 use Rattle.power_series.specs.Visit.{Walk, startWalk, isStopped, withEntry, nextWalk}
 use Rattle.power_series.proofs.VisitBound.{Arrives, start, past-zero, past-seed, visited, arrives-low, arrives-below}
-use Rattle.series_step.proofs.StepFacts.{Zeroed, Kept, Did, zeroed, kept, recurred, did}
 use Rattle.power_series.proofs.WalkFacts.{stopping, stepping}
-use Rattle.series_sum.proofs.SumEnds.{EndsByTest, sum-ends}
 
 -- the visit of n orders after i of them, or where it stopped before
 abbrev pub walkAfter : Setting → ℕ → ℕ → Walk

@@ -14,13 +14,13 @@ use Rattle.laws.proofs.Part.{front-length, put-front}
 use Rattle.laws.proofs.Seam.{Down, down-start, down-store, down-drop}
 use Rattle.series_step.specs.declared.setting.Setting.{Setting}
 use Rattle.series_step.specs.declared.descent.Descent.{Descent}
-use Rattle.power_series.specs.declared.visit.Standing.{Standing}
 use Rattle.series_step.specs.Descent.{startDescent}
 use Rattle.series_step.specs.Step.{stepOf}
-use Rattle.power_series.specs.shapes.Pair.{Settled, walkFrom}
-use Rattle.power_series.specs.Visit.{Walk, startWalk, isStopped, withEntry, nextWalk, walkOf, visitedOf, visitOf}
-use Rattle.power_series.specs.shapes.Visit.{concludedOf}
 use Rattle.series_step.proofs.StepFacts.{zeros-grow, rungs-grow}
+use Rattle.power_series.specs.declared.visit.Standing.{Standing}
+use Rattle.power_series.specs.Visit.{Walk, startWalk, isStopped, withEntry, nextWalk, walkOf, visitedOf, visitOf}
+use Rattle.power_series.specs.shapes.Pair.{Settled, walkFrom}
+use Rattle.power_series.specs.shapes.Visit.{concludedOf}
 
 -- nothing is written yet above the n-th cell
 down-from : (n : ℕ) (d : List Float) → n ≤ length d → Down d (drop n d) n d

@@ -1,5 +1,5 @@
--- The downward visit of the n orders v + n - 1 to v, ZSERI from 20 on (`i_power_series` of src/amos/power_series.rs): where it ends, with what
--- counts, and what the cells hold, re before im, the lowest order first. Definitions only.
+-- The downward visit of the n orders v + n - 1 to v, ZSERI from 20 on (`i_power_series` of src/amos/power_series.rs): where it ends, with
+-- what counts, and what the cells hold, re before im, the lowest order first. Definitions only.
 use mathlib.Core.Bool.{Bool}
 use mathlib.Core.List.{List, [], _∷_, _++_}
 use Prim.Native.Nat.{ℕ, _-_, _*_}

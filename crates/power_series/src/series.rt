@@ -1,6 +1,6 @@
 // The power series over n orders, DLMF 10.25.2: the small arguments apart, the downward visit otherwise. From src/amos/power_series.rs,
-// i_power_series (ZSERI). Promised: powerSeriesOf of specs/Series.antt, record and cells. It asks what refusals 1 and 5 leave: an even number
-// of cells, 2 to 1024 of them.
+// i_power_series (ZSERI). Promised: powerSeriesOf of specs/Series.antt, record and cells. It asks what refusals 1 and 5 leave: an even
+// number of cells, 2 to 1024 of them.
 ghost use mathlib.Core.Path.{_≡_};
 ghost use mathlib.Core.Bool.{true, false};
 ghost use Prim.Native.Nat.{_/_, _%_, _≤_, _<_};

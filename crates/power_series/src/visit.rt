@@ -1,6 +1,6 @@
-// The downward visit, one order at a time: v + n - 1 to v, each entry into its two cells from the top down, until a zeroed order stops it; the
-// cells below hold the fixed not-a-number. From src/amos/power_series.rs, i_power_series (ZSERI, from 20 on).
-// Promised: visitOf of specs/Visit.antt, record and cells.
+// The downward visit, one order at a time: v + n - 1 to v, each entry into its two cells from the top down, until a zeroed order stops it;
+// the cells below hold the fixed not-a-number. From src/amos/power_series.rs, i_power_series (ZSERI, from 20 on). Promised: visitOf of
+// specs/Visit.antt, record and cells.
 ghost use mathlib.Core.Path.{_≡_};
 ghost use Prim.Native.Nat.{_*_, _/_, _%_, _≤_};
 ghost use lib.ListN.{length, drop};

@@ -11,12 +11,12 @@ use Rattle.machine.specs.Constants.{exponentLimit, absoluteApproximationLimit}
 use Rattle.complex.specs.declared.number.Complex.{Complex}
 use Rattle.complex.specs.Arithmetic.{productOf, timesReal, zeroPair}
 use Rattle.complex.specs.Functions.{modulusOf}
+use Rattle.series_sum.specs.Sum.{sumOf}
+use Rattle.series_sum.proofs.SumRun.{sum-few}
 use Rattle.series_step.specs.declared.setting.Setting.{Setting}
 use Rattle.series_step.specs.declared.descent.Tally.{Tally}
 use Rattle.series_step.specs.declared.descent.Descent.{Descent}
 use Rattle.series_step.specs.Setting.{orderAt}
-use Rattle.series_sum.specs.Sum.{sumOf}
-use Rattle.series_sum.proofs.SumRun.{sum-few}
 use Rattle.series_step.specs.Leading.{leadingOf}
 use Rattle.series_step.specs.Mark.{longestOf, markedOf}
 use Rattle.series_step.specs.Seed.{coefficientOf, isGone, zeroedOf, keptOf, goneIf, summedOf, seedIf, seedOf}

@@ -1,6 +1,6 @@
--- What the orders of one visit share: ZSERI before 20 (`i_power_series` of src/amos/power_series.rs), over the n orders v, v + 1, .. of I at z.
--- v is the lowest order (FNU), m the modulus of z (AZ). Turned, (z/2)² has the opposite sign: the series is then that of J, DLMF 10.2.2.
--- Definitions only.
+-- What the orders of one visit share: ZSERI before 20 (`i_power_series` of src/amos/power_series.rs), over the n orders v, v + 1, .. of I
+-- at z. v is the lowest order (FNU), m the modulus of z (AZ). Turned, (z/2)² has the opposite sign: the series is then that of J, DLMF
+-- 10.2.2. Definitions only.
 use mathlib.Core.Bool.{Bool, true, false}
 use Prim.Native.Nat.{ℕ}
 use lib.IntN.{pos}

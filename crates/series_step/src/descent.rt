@@ -12,9 +12,9 @@ pub struct Tally {
     pub rungs: u32,
 }
 
-// The state between two orders: the last two values, raised near underflow, the entry of the order above, by what factor a value becomes its
-// entry, and how many orders are seeded. The types leave no byte of padding, which the compiler would carry through memory from order to
-// order.
+// The state between two orders: the last two values, raised near underflow, the entry of the order above, by what factor a value becomes
+// its entry, and how many orders are seeded. The types leave no byte of padding, which the compiler would carry through memory from order
+// to order.
 pub struct Descent {
     pub y_k_plus_2: Complex,
     pub y_k_plus_1: Complex,

@@ -1,6 +1,7 @@
--- The I sum at one order leaves by its own test, after 19 turns at most: for 1 ≤ u ≤ 2^32 and x from 2^-52 u, rounded, to (u + 1)(1 + 1/1024).
--- The denominator after j turns is (j + 1)(u + j), so it is at least (j + 1)(u + 1) but for rounding, and the j-th factor is at most 257 / 256 j from the second on.
--- So the error after n turns is at most 2 (129 / 128)^n / n! times x / u, against a tolerance of 2^-52 times x / u. Assumes nothing.
+-- The I sum at one order leaves by its own test, after 19 turns at most: for 1 ≤ u ≤ 2^32 and x from 2^-52 u, rounded, to (u + 1)(1 +
+-- 1/1024). The denominator after j turns is (j + 1)(u + j), so it is at least (j + 1)(u + 1) but for rounding, and the j-th factor is at
+-- most 257 / 256 j from the second on. So the error after n turns is at most 2 (129 / 128)^n / n! times x / u, against a tolerance of 2^-52
+-- times x / u. Assumes nothing.
 use mathlib.Core.Path.{_≡_, subst}
 use mathlib.Core.Bool.{Bool, false}
 use Prim.Native.Nat.{ℕ, zero, suc, _+_, _-_, _*_, _^_, _≤_, _<_}
@@ -9,10 +10,10 @@ use native.Mathlib.Omega.{arith}
 use lib.Dec.{T, lit<, lit≤}
 use lib.Ieee.{Float, Format, binary64, ofBits, add, mul, div, lt, le}
 use lib.Ieee.Positive.{num, den, den-pos}
+use Rattle.laws.specs.Iterate.{iterate}
 use Rattle.laws.proofs.Order.{not-lt→le, mul-comm-float}
 use Rattle.laws.proofs.Bound.{Up, Lo, Span, up-test, lo-test, up-of, lo-of, up-weaken, lo-weaken, up-finite, lo-of-le, span-one, span-of, span-inv, span-div, normal-by, upTest, loTest, up-one, lo-one, add-lo, mul-up-by, mul-lo-by, mul-up-both, div-up-both, div-lo-both, add-lo-by, up-lo-not-by, every, every-at}
 use Rattle.laws.proofs.First.{First, first, failed}
-use Rattle.laws.specs.Iterate.{iterate}
 use Rattle.machine.specs.Constants.{tolerance}
 use Rattle.machine.specs.Small.{one, two}
 use Rattle.series_sum.specs.Sum.{startEstimate, nextEstimate, estimateAfter, sumTolerance, sumIsOne, goesOn}
@@ -162,7 +163,8 @@ module _ (x u : Float) (h : Summed x u) where
   denominator-lo : (j : ℕ) → j < 19 → Lo (estimateAfter x u (suc j) .denominator) (denominatorPart (suc j) * (num u + den u)) (1048576 * den u)
   unfolding estimateAfter iterate startEstimate nextEstimate denominatorPart denominatorTest
   denominator-lo zero l =
-      add-lo binary64 (2 * 1048573 * (num u + den u)) (1048576 * den u) (mul-pos (lit< tt) (den-pos u)) (normal-by binary64 (2 * 1048573) 1048576 next-order (lit≤ tt)) (second-denominator (num u) (den u) (2 ^ 53 - 1) (lit≤ tt)) (lo-of u (h .most .sign)) first-step
+      add-lo binary64 (2 * 1048573 * (num u + den u)) (1048576 * den u) (mul-pos (lit< tt) (den-pos u)) (normal-by binary64 (2 * 1048573) 1048576 next-order (lit≤ tt))
+      (second-denominator (num u) (den u) (2 ^ 53 - 1) (lit≤ tt)) (lo-of u (h .most .sign)) first-step
   denominator-lo (suc j) l =
       add-lo-by binary64 (denominatorPart (suc j)) 1048576 (stepPart (suc j)) 1048576 (denominatorPart (suc (suc j))) 1048576 next-order (every-at denominatorTest 18 denominators j (omega arith))
       (denominator-lo j (omega arith)) (step-lo (suc j) (omega arith))

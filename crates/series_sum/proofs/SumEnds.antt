@@ -1,4 +1,5 @@
--- A sum that meets what it asks leaves by its own test, at the first term that passes it, the 19th or an earlier one: the bound of 19 does not decide, and any larger one gives the same sum. Assumes nothing.
+-- A sum that meets what it asks leaves by its own test, at the first term that passes it, the 19th or an earlier one: the bound of 19 does
+-- not decide, and any larger one gives the same sum. Assumes nothing.
 use mathlib.Core.Path.{_≡_, refl, sym, ap, _∙_, subst}
 use mathlib.Core.Bool.{Bool, true, false, not}
 use Prim.Native.Nat.{ℕ, zero, suc, _+_, _≤_, _<_}

@@ -2,10 +2,9 @@
 use mathlib.Core.Path.{_≡_, refl, ap, _∙_}
 use mathlib.Core.Bool.{Bool, true, false}
 use lib.Dec.{T}
-use lib.Ieee.{Float, binary64, ofBits, toUnsigned, fits, neg, add, mul, div, lt, le, eq, round}
-use Rattle.rounding.specs.Round.{nearestWhole, roundOf}
-use Rattle.gamma_ln.specs.Tables.{wholeValues}
-use Rattle.gamma_ln.specs.GammaLn.{isTabulated, tabulatedOf, gammaLnOf}
+use lib.Ieee.{Float, binary64, ofBits, fits, neg, add, mul, div, lt, le, eq}
+use Rattle.gamma_ln.specs.GammaLn.{gammaLnOf}
+use Rattle.gamma_ln.proofs.AtOne.{log-gamma-at-one}
 use Rattle.exponential.specs.Exp.{expOf}
 use Rattle.exponential.proofs.ExpFacts.{exp-at-minus-zero}
 use Rattle.complex.specs.Lost.{magnitudeOf}
@@ -20,21 +19,6 @@ unfolding ofBits add
 one-plus true = refl
 one-plus false = refl
 
-tabulated : isTabulated one ≡ true
-unfolding isTabulated roundOf nearestWhole ofBits le lt eq round
-tabulated = refl
-
-value-at-one : tabulatedOf one ≡ zeroOf false
-unfolding tabulatedOf toUnsigned wholeValues ofBits
-value-at-one = refl
-
-above-zero : le one (ofBits binary64 0) ≡ false
-unfolding ofBits le lt eq
-above-zero = refl
-
-log-gamma-at-one : gammaLnOf one .value ≡ zeroOf false
-unfolding gammaLnOf
-log-gamma-at-one = rw (above-zero, tabulated, value-at-one)
 
 sinc-at-zero : (s : Bool) → oneOverSinc (zeroOf s) ≡ one
 unfolding oneOverSinc ofBits eq

@@ -1,6 +1,6 @@
--- How it is computed, not what: when the entry at order 0, unscaled, is the sum itself. The modulus of z/2 is finite and above zero, so that its
--- ln is finite, and neither part of the sum is a zero, an infinity or not a number, so that a leading factor of (1, 0) or (1, -0) leaves it as
--- it is. Definitions only.
+-- How it is computed, not what: when the entry at order 0, unscaled, is the sum itself. The modulus of z/2 is finite and above zero, so
+-- that its ln is finite, and neither part of the sum is a zero, an infinity or not a number, so that a leading factor of (1, 0) or (1, -0)
+-- leaves it as it is. Definitions only.
 use mathlib.Core.Path.{_≡_}
 use mathlib.Core.Bool.{false}
 use lib.Dec.{T}

@@ -1,5 +1,5 @@
--- How it is computed, not what: the two highest orders are both seeded far from underflow, their sums taken side by side, and the recurrence
--- goes down from them with nothing left to test. Definitions only.
+-- How it is computed, not what: the two highest orders are both seeded far from underflow, their sums taken side by side, and the
+-- recurrence goes down from them with nothing left to test. Definitions only.
 use mathlib.Core.Path.{_≡_}
 use mathlib.Core.Bool.{false}
 use mathlib.Core.List.{List}

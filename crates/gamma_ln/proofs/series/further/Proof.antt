@@ -1,4 +1,5 @@
--- `gamma_ln::series::further` meets its contract: before each turn the run that is left, from the state as it is, ends as the whole run does. Assumes nothing.
+-- `gamma_ln::series::further` meets its contract: before each turn the run that is left, from the state as it is, ends as the whole run
+-- does. Assumes nothing.
 use mathlib.Core.Path.{_≡_, refl, sym, _∙_}
 use mathlib.Core.Bool.{true, false}
 use Prim.Native.Nat.{ℕ, _-_, _≤_, _<_}

@@ -1,4 +1,4 @@
--- `gamma_ln_tables::tables::coefficient` meets its contract, at each of its 22 entries. Written by tools/tables/gamma_ln.py. Assumes nothing.
+-- `gamma_ln_tables::tables::coefficient` meets its contract at each of 22 entries. Written by tools/tables/gamma_ln.py. Assumes nothing.
 use lib.Ieee.{ofBits, neg}
 use Rattle.laws.proofs.Arms.{last}
 use Rattle.gamma_ln_tables.specs.Tables.{coefficients}

@@ -1,4 +1,4 @@
--- `gamma_ln_tables::tables::whole_value` meets its contract, at each of its 101 entries. Written by tools/tables/gamma_ln.py. Assumes nothing.
+-- `gamma_ln_tables::tables::whole_value` meets its contract at each of 101 entries. Written by tools/tables/gamma_ln.py. Assumes nothing.
 use Rattle.laws.proofs.Arms.{last}
 use Rattle.gamma_ln_tables.specs.Tables.{wholeValues}
 use Rattle.gamma_ln_tables.proofs.tables.whole_value.Statement.{statement}

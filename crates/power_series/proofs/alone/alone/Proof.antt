@@ -5,16 +5,16 @@ use native.Mathlib.Omega.{arith}
 use lib.Dec.{T}
 use lib.Ieee.{Float, binary64, fits}
 use lib.ListN.{length}
+use Rattle.laws.specs.Operators.{_⊕_}
+use Rattle.machine.specs.Small.{nothing, half}
 use Rattle.complex.specs.declared.number.Complex.{Complex}
 use Rattle.complex.specs.Arithmetic.{timesReal}
 use Rattle.complex.specs.Functions.{modulusOf}
-use Rattle.series_step.specs.declared.setting.Setting.{Setting}
-use Rattle.laws.specs.Operators.{_⊕_}
-use Rattle.machine.specs.Small.{nothing, half}
-use Rattle.series_step.specs.Setting.{halfSquare, turnedOf, squareOf}
 use Rattle.series_sum.specs.Sum.{sumOf}
-use Rattle.power_series.specs.shapes.Alone.{Plain}
+use Rattle.series_step.specs.declared.setting.Setting.{Setting}
+use Rattle.series_step.specs.Setting.{halfSquare, turnedOf, squareOf}
 use Rattle.power_series.specs.Visit.{visitOf}
+use Rattle.power_series.specs.shapes.Alone.{Plain}
 use Rattle.power_series.proofs.AloneFacts.{sumAt, sum-is, alone-visited, alone-written, pair-cells}
 use borrow.Author.Needs.{needs}
 use Rattle.power_series.proofs.alone.alone.Statement.{statement}

@@ -7,9 +7,9 @@ use lib.Ieee.{neg, le}
 use lib.ListN.{length}
 use Rattle.machine.specs.Constants.{approximationLimit}
 use Rattle.complex.specs.declared.number.Complex.{Complex}
+use Rattle.series_step.specs.Setting.{orderAt}
 use Rattle.power_series.specs.declared.visit.Standing.{Standing}
 use Rattle.power_series.specs.declared.pair.Pair.{Pair}
-use Rattle.series_step.specs.Setting.{orderAt}
 use Rattle.power_series.specs.Visit.{Visited}
 use Rattle.power_series.specs.shapes.Pair.{pairOf, Begun}
 use Rattle.power_series.proofs.WalkFacts.{walk-left, concluded-visit}

@@ -1,4 +1,5 @@
--- `power_series::pair::two_by_two` meets its contract: before each pair of orders the run that is left, from the state and the cells as they are, ends as it did at first. Assumes nothing.
+-- `power_series::pair::two_by_two` meets its contract: before each pair of orders the run that is left, from the state and the cells as
+-- they are, ends as it did at first. Assumes nothing.
 use mathlib.Core.Path.{_≡_, sym, _∙_, subst}
 use Prim.Native.Nat.{_-_, _*_, _/_, _%_, _≤_, _<_}
 use native.Mathlib.Omega.{arith}

@@ -1,12 +1,12 @@
 -- `power_series::series::power_series` meets its contract: below the underflow limit, order 0 alone, and the visit. Assumes nothing.
 use mathlib.Core.Path.{_≡_, sym, ap, _∙_}
 use mathlib.Core.Bool.{Bool, false}
-use Prim.Native.Nat.{ℕ, _/_}
+use Prim.Native.Nat.{_/_}
 use native.Mathlib.Omega.{arith}
 use lib.ListN.{length}
 use Rattle.machine.specs.Constants.{underflowLimit}
 use Rattle.series_step.specs.Setting.{settingOf}
-use Rattle.power_series.specs.Visit.{visitOf}
+use Rattle.power_series.specs.Visit.{Visited, visitOf}
 use Rattle.power_series.specs.Series.{powerSeriesIf, powerSeriesOf}
 use borrow.Author.Needs.{needs}
 use Rattle.power_series.proofs.series.power_series.Statement.{statement}
@@ -42,11 +42,12 @@ returns-2 c =
     let i = d .before .before .before in
     let s = i .before .before .before in
     let h = i .is-alone .ensures (d .before .before .if2 .taken) in
-    let n : 1 ≡ length (s .args .out .now) / 2 = omega (arith, h .2) in
-    rw (i .before .if1 .left) (
-      d .alone .ensures .0 ∙ ap (λ (k : ℕ). visitOf (settingOf false (s .args .turned) (s .args .order) (s .args .z) (s .args .modulus)) k .visit) n ∙ ap (λ (b : Bool). visitOf (settingOf b (s .args .turned) (s .args .order) (s .args .z) (s .args .modulus)) (length (s .args .out .now) / 2) .visit) (sym (h .0)),
-      d .alone .ensures .1 ∙ ap (λ (k : ℕ). visitOf (settingOf false (s .args .turned) (s .args .order) (s .args .z) (s .args .modulus)) k .cells) n ∙ ap (λ (b : Bool). visitOf (settingOf b (s .args .turned) (s .args .order) (s .args .z) (s .args .modulus)) (length (s .args .out .now) / 2) .cells) (sym (h .0)),
-    )
+    let a = s .args in
+    let n : 1 ≡ length (a .out .now) / 2 = omega (arith, h .2) in
+    let same =
+    ap (visitOf (settingOf false (a .turned) (a .order) (a .z) (a .modulus))) n
+    ∙ ap (λ (b : Bool). visitOf (settingOf b (a .turned) (a .order) (a .z) (a .modulus)) (length (a .out .now) / 2)) (sym (h .0)) in
+    rw (i .before .if1 .left) (d .alone .ensures .0 ∙ ap (λ (v : Visited). v .visit) same, d .alone .ensures .1 ∙ ap (λ (v : Visited). v .cells) same)
 
 prepare-requires : tie.Need-prepare-requires
 prepare-requires c κs = search needs

@@ -6,8 +6,8 @@ use native.Mathlib.Omega.{arith}
 use lib.Ieee.{Float}
 use lib.ListN.{length, set}
 use Rattle.machine.specs.Small.{nothing}
-use Rattle.power_series.specs.Tiny.{tinyOf}
 use Rattle.cells.proofs.FillFacts.{replicate-first}
+use Rattle.power_series.specs.Tiny.{tinyOf}
 use borrow.Author.Needs.{needs}
 use Rattle.power_series.proofs.tiny.tiny.Statement.{statement}
 use Rattle.power_series.proofs.tiny.tiny.Tie as tie

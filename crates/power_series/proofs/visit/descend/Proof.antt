@@ -1,4 +1,5 @@
--- `power_series::visit::descend` meets its contract: before each order the run that is left, from the state and the cells as they are, ends as the whole run does. Assumes nothing.
+-- `power_series::visit::descend` meets its contract: before each order the run that is left, from the state and the cells as they are, ends
+-- as the whole run does. Assumes nothing.
 use mathlib.Core.Path.{_≡_}
 use native.Mathlib.Omega.{arith}
 use Prim.Native.Nat.{_-_, _/_}

@@ -1,4 +1,5 @@
--- `series_sum::sums::side_by_side` meets its contract: before each turn what is left of each sum, from the states as they are, ends as it did at first. Assumes nothing.
+-- `series_sum::sums::side_by_side` meets its contract: before each turn what is left of each sum, from the states as they are, ends as it
+-- did at first. Assumes nothing.
 use mathlib.Core.Path.{_≡_, refl, sym, _∙_}
 use Prim.Native.Nat.{_-_, _≤_, _<_}
 use native.Mathlib.Omega.{arith}

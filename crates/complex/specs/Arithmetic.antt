@@ -45,3 +45,6 @@ minusReal z t = record { re = z .re ⊖ t; im = z .im }
 -- a real number over a complex one stands as (a, 0)
 unfoldable pub realOver : Float → Complex → Complex
 realOver a z = quotientOf (record { re = a; im = ofBits binary64 0 }) z
+
+abbrev pub zeroPair : Complex
+zeroPair = record { re = ofBits binary64 0; im = ofBits binary64 0 }

@@ -1,7 +1,7 @@
 // A complex number, and its plain arithmetic. From num's complex::Complex, without its scaled forms.
 // Promised: each operation is its definition in specs/Arithmetic.antt, for every pair of parts.
 ghost use mathlib.Core.Path.{_≡_};
-ghost use Rattle.complex.specs.Arithmetic.{plusOf, minusOf, oppositeOf, conjugateOf, productOf, quotientOf, timesReal, overReal, plusReal, minusReal, realOver, normSquareOf};
+ghost use Rattle.complex.specs.Arithmetic.{plusOf, minusOf, oppositeOf, conjugateOf, productOf, quotientOf, timesReal, overReal, plusReal, minusReal, realOver, normSquareOf, zeroPair};
 
 pub struct Complex {
     pub re: f64,
@@ -112,4 +112,10 @@ pub fn real_over(a: f64, z: Complex) -> Complex
     ensures { λ r. ⌜ r ≡ realOver a z ⌝ }
 {
     Complex { re: a, im: 0.0 }.quotient(z)
+}
+
+pub fn zero_pair() -> Complex
+    ensures { λ r. ⌜ r ≡ zeroPair ⌝ }
+{
+    Complex { re: 0.0, im: 0.0 }
 }

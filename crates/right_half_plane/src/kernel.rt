@@ -14,7 +14,7 @@ use crate::ground::Ground;
 use crate::ground::prepare;
 use crate::lead::Lead;
 use crate::lead::first_lead;
-use crate::lead::scaled_lead;
+use crate::lead::on_scale_lead;
 use crate::reach::Reached;
 use crate::reach::reach;
 use crate::seeds::Seeded;
@@ -97,7 +97,7 @@ fn from_pair(g: Ground, s: Seeded, first: Complex, second: Complex, out: &mut [f
     };
     let reached = reach(g, s.underflow, start);
     match reached {
-        Reached::OnScale(c) => answered(g, s, scaled_lead(c), out),
+        Reached::OnScale(c) => answered(g, s, on_scale_lead(c), out),
         Reached::Marked(c) => answered(g, s, first_lead(g, c), out),
         Reached::Refused(refusal) => Outcome::Refused(refusal),
     }

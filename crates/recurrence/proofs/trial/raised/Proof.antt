@@ -1,9 +1,9 @@
--- `recurrence::trial::unscaled` meets its contract: the calls in their order. Assumes nothing.
+-- `recurrence::trial::raised` meets its contract: the calls in their order. Assumes nothing.
 use borrow.Author.Needs.{needs}
 use Rattle.machine.specs.Constants.{tolerance}
-use Rattle.recurrence.specs.Trial.{trialOf}
-use Rattle.recurrence.proofs.trial.unscaled.Statement.{statement}
-use Rattle.recurrence.proofs.trial.unscaled.Tie as tie
+use Rattle.recurrence.specs.Trial.{raisedOf}
+use Rattle.recurrence.proofs.trial.raised.Statement.{statement}
+use Rattle.recurrence.proofs.trial.raised.Tie as tie
 
 ln-requires : tie.Need-ln-requires
 ln-requires c κs = search needs
@@ -18,9 +18,9 @@ over-real-requires : tie.Need-over-real-requires
 over-real-requires c κs = search needs
 
 returns : tie.Need-returns
-unfolding trialOf tolerance
+unfolding raisedOf tolerance
 returns c = simp (c .over-real .ensures, c .before .exp .ensures, c .before .before .minus .ensures, c .before .before .before .ln .ensures)
 
-pub unscaled-spec : {M : Type 1} → statement M
-unscaled-spec =
+pub raised-spec : {M : Type 1} → statement M
+raised-spec =
     tie.close (tie.spec ln-requires minus-requires exp-requires over-real-requires returns)

@@ -28,13 +28,10 @@ use Rattle.roots.proofs.HypotValues.{hypot-symmetric}
 use Rattle.complex.specs.declared.number.Complex.{Complex}
 use Rattle.complex.specs.Functions.{modulusOf}
 use Rattle.complex.specs.Lost.{magnitudeOf}
-use Rattle.right_half_plane.specs.Seeds.{two}
+use Rattle.machine.specs.Small.{nothing, two}
 use Rattle.right_half_plane.proofs.ModulusBound.{summed-is, modulus-up}
 
--- 0, 1.40625 and 2.25
-abbrev nothing : Float
-nothing = ofBits binary64 0
-
+-- 1.40625 and 2.25
 abbrev pub inner : Float
 inner = ofBits binary64 0x3FF6800000000000
 

@@ -1,4 +1,5 @@
--- The plain climb: one rung more, its end, two climbs in a row; each rung is counted once, and the state moves at most twice. Assumes nothing.
+-- The plain climb: one rung more, before the others or behind them, two climbs in a row; each rung is counted once, and the state moves at most twice.
+-- Assumes nothing.
 use mathlib.Core.Path.{_≡_, refl, sym, ap, _∙_}
 use mathlib.Core.Bool.{Bool, true, false, cond}
 use Prim.Native.Nat.{ℕ, zero, suc, _+_, _-_, _≤_, _<_}
@@ -6,7 +7,8 @@ use native.Mathlib.Nat.{add-zero, zero-add, add-suc, suc-add}
 use native.Mathlib.Omega.{arith}
 use lib.Dec.{lit≤}
 use lib.Ieee.{Float}
-use Rattle.laws.proofs.Run.{run-out, run-on, run-next, run-end}
+use Rattle.laws.specs.Run.{run}
+use Rattle.laws.proofs.Run.{run-out, run-on}
 use Rattle.complex.specs.declared.number.Complex.{Complex}
 use Rattle.complex.specs.Arithmetic.{timesReal}
 use Rattle.recurrence.specs.State.{reciprocalOf, movedOn, placeOf}
@@ -23,6 +25,27 @@ last-place NearUnder = lit≤ tt
 last-place None = lit≤ tt
 last-place NearOver = lit≤ tt
 
+-- ---- a run that no test ends
+module _ {S : Type 0} (step : ℕ → S → S) where
+  -- two in a row are one
+  plain-again : (i m n : ℕ) (s : S) → run never step n (i + m) (run never step m i s) ≡ run never step (m + n) i s
+  plain-again i zero n s =
+      ap (λ (k : ℕ). run never step n k (run never step 0 i s)) (add-zero i)
+      ∙ ap (run never step n i) (run-out never step i s)
+      ∙ ap (λ (k : ℕ). run never step k i s) (sym (zero-add n))
+  plain-again i (suc m) n s =
+      ap (λ (k : ℕ). run never step n k (run never step (suc m) i s)) (add-suc i m ∙ sym (suc-add i m))
+      ∙ ap (run never step n (suc i + m)) (run-on never step m i s refl)
+      ∙ plain-again (suc i) m n (step i s)
+      ∙ sym (ap (λ (k : ℕ). run never step k i s) (suc-add m n) ∙ run-on never step (m + n) i s refl)
+
+  pub plain-last : (i n : ℕ) (s : S) → run never step (n + 1) i s ≡ step (i + n) (run never step n i s)
+  plain-last i n s =
+      sym (plain-again i n 1 s)
+      ∙ run-on never step 0 (i + n) (run never step n i s) refl
+      ∙ run-out never step (suc (i + n)) (step (i + n) (run never step n i s))
+
+-- ---- the climb
 module _ (twoOverZ : Complex) (baseOrder : Float) where
   pub climb-out : (i : ℕ) (c : Climb) → climbFrom twoOverZ baseOrder i 0 c ≡ c
   unfolding climbFrom
@@ -31,21 +54,6 @@ module _ (twoOverZ : Complex) (baseOrder : Float) where
   pub climb-on : (i n : ℕ) (c : Climb) → climbFrom twoOverZ baseOrder i (suc n) c ≡ climbFrom twoOverZ baseOrder (suc i) n (rungOf twoOverZ baseOrder i c .climb)
   unfolding climbFrom
   climb-on i n c = run-on never _ n i c refl
-
-  -- as the code counts
-  pub climb-start : (from n : ℕ) (c : Climb) → climbFrom twoOverZ baseOrder from n c ≡ climbFrom twoOverZ baseOrder from (from + n - from) c
-  climb-start from n c = ap (λ (k : ℕ). climbFrom twoOverZ baseOrder from k c) (same from n)
-    where
-      same : (a n : ℕ) → n ≡ a + n - a
-      same a n = omega arith
-
-  pub climb-next : (i to : ℕ) (c : Climb) → i < to → climbFrom twoOverZ baseOrder i (to - i) c ≡ climbFrom twoOverZ baseOrder (i + 1) (to - (i + 1)) (rungOf twoOverZ baseOrder i c .climb)
-  unfolding climbFrom
-  climb-next i to c h = run-next never _ to i c h refl
-
-  pub climb-end : (i to : ℕ) (c : Climb) → to ≤ i → climbFrom twoOverZ baseOrder i (to - i) c ≡ c
-  unfolding climbFrom
-  climb-end i to c h = run-end never _ to i c h
 
   -- ---- each rung is counted once
   pub rung-counted : (i : ℕ) (c : Climb) → rungOf twoOverZ baseOrder i c .climb .rungs ≡ c .rungs + 1
@@ -72,15 +80,12 @@ module _ (twoOverZ : Complex) (baseOrder : Float) where
 
   -- two climbs in a row are one
   pub climb-again : (i m n : ℕ) (c : Climb) → climbFrom twoOverZ baseOrder (i + m) n (climbFrom twoOverZ baseOrder i m c) ≡ climbFrom twoOverZ baseOrder i (m + n) c
-  climb-again i zero n c =
-      ap (λ (k : ℕ). climbFrom twoOverZ baseOrder k n (climbFrom twoOverZ baseOrder i 0 c)) (add-zero i)
-      ∙ ap (climbFrom twoOverZ baseOrder i n) (climb-out i c)
-      ∙ ap (λ (k : ℕ). climbFrom twoOverZ baseOrder i k c) (sym (zero-add n))
-  climb-again i (suc m) n c =
-      ap (λ (k : ℕ). climbFrom twoOverZ baseOrder k n (climbFrom twoOverZ baseOrder i (suc m) c)) (add-suc i m ∙ sym (suc-add i m))
-      ∙ ap (climbFrom twoOverZ baseOrder (suc i + m) n) (climb-on i m c)
-      ∙ climb-again (suc i) m n (rungOf twoOverZ baseOrder i c .climb)
-      ∙ sym (ap (λ (k : ℕ). climbFrom twoOverZ baseOrder i k c) (suc-add m n) ∙ climb-on i (m + n) c)
+  unfolding climbFrom
+  climb-again i m n c = plain-again _ i m n c
+
+  pub climb-last : (i n : ℕ) (c : Climb) → climbFrom twoOverZ baseOrder i (n + 1) c ≡ rungOf twoOverZ baseOrder (i + n) (climbFrom twoOverZ baseOrder i n c) .climb
+  unfolding climbFrom
+  climb-last i n c = plain-last _ i n c
 
   -- ---- the state moves one place on at a time, and at most twice
   rung-place : (i : ℕ) (c : Climb) → placeOf (rungOf twoOverZ baseOrder i c .climb .state) ≡ cond (rungOf twoOverZ baseOrder i c .moved) 1 0 + placeOf (c .state)

@@ -1,93 +1,263 @@
--- The cells of a climb's entries: one rung more, and how many they are; the buffer while a climb fills it, rung by rung or part by part, up to the full buffer. Assumes nothing.
+-- The climb that fills: one rung more, two fills in a row; its climb is the plain one, and its cells are two a rung. Part of it, in the buffer that it
+-- fills: its start, one rung more, two parts in a row, the whole. Assumes nothing.
 use mathlib.Core.Path.{_≡_, refl, sym, ap, _∙_, subst}
+use mathlib.Core.Bool.{Bool, true, false, true≢false, not}
 use mathlib.Core.List.{List, [], _∷_, _++_, append-assoc, append-nil}
-use Prim.Native.Nat.{ℕ, zero, suc, _+_, _-_, _*_, _≤_, _<_}
-use native.Mathlib.Nat.{add-zero, sub-eq-zero-of-le}
+use Prim.Native.Nat.{ℕ, zero, suc, _+_, _-_, _*_, _/_, _≤_, _<_}
+use native.Mathlib.Nat.{add-zero, add-suc, add-assoc}
 use native.Mathlib.Numerals.{add-one}
 use native.Mathlib.Omega.{arith}
-use lib.ListN.{length, set}
+use lib.ListN.{length, take, drop, set, length-append, take-append-drop}
+use lib.Seq.{length-take-le, drop-drop}
 use lib.Ieee.{Float}
-use Rattle.laws.proofs.Seam.{Seam, seam-start, seam-pair, seam-full}
+use Rattle.laws.proofs.Run.{run-out}
+use Rattle.laws.proofs.Seam.{Seam, seam-pair, seam-as, seam-full, seam-take, seam-drop}
 use Rattle.complex.specs.declared.number.Complex.{Complex}
+use Rattle.complex.specs.Arithmetic.{timesReal}
+use Rattle.recurrence.specs.State.{reciprocalOf}
 use Rattle.recurrence.specs.Rung.{rungOf}
-use Rattle.recurrence.specs.Climb.{climbFrom, entriesFrom}
-use Rattle.recurrence.specs.Stretch.{setEntries}
+use Rattle.recurrence.specs.Climb.{never, climbFrom}
+use Rattle.recurrence.specs.Fill.{Filled, fillStep, fillFrom}
+use Rattle.recurrence.specs.shapes.Stretch.{Partway, PartFilled, Belongs, putIf, Written, Stays}
 use Rattle.recurrence.specs.declared.state.Climb.{Climb}
 use Rattle.recurrence.specs.declared.state.Rung.{Rung}
-use Rattle.recurrence.proofs.ClimbFacts.{climb-out}
-use Rattle.recurrence.proofs.StretchFacts.{climb-last}
+use Rattle.recurrence.specs.declared.held.Held.{Held}
+use Rattle.recurrence.specs.declared.fill.Course.{Course}
+use Rattle.recurrence.specs.declared.fill.Turn.{Turn}
+use Rattle.recurrence.proofs.ClimbFacts.{plain-last, climb-out, climb-last, climb-again, rung-counted}
+use Rattle.recurrence.proofs.StretchFacts.{held-rung, partway-start, partway-rung, partway-again, partway-whole}
+
+-- a seam, and another from there on
+seam-again : {A : Type 0} {d p out out' : List A} {n m : ℕ} (q : List A) → n ≤ m → Seam d p n out → Seam out (take n out ++ q) m out' → Seam d (p ++ q) m out'
+seam-again {A} {d} {p} {out} {out'} {n} {m} q h s t =
+    let e : take n out ≡ p = seam-take s in
+    let g = t .room in
+    let k = s .same in
+    record {
+      count = ap (λ (l : List A). length (l ++ q)) (sym e) ∙ t .count;
+      room = omega arith;
+      same = t .same ∙ s .same;
+      is =
+          t .is
+          ∙ ap (λ (l : List A). (l ++ q) ++ drop m out) e
+          ∙ ap (λ (l : List A). (p ++ q) ++ l) (behind out ∙ ap (drop (m - n)) (seam-drop s) ∙ sym (behind d));
+    }
+  where
+    behind : (l : List A) → drop m l ≡ drop (m - n) (drop n l)
+    behind l = sym (drop-drop (m - n) n l ∙ ap (λ (k : ℕ). drop k l) (whole n m h))
+      where
+        whole : (n m : ℕ) → n ≤ m → n + (m - n) ≡ m
+        whole n m h = omega arith
 
 module _ (twoOverZ : Complex) (baseOrder : Float) where
-  pub entries-length : (i n : ℕ) (c : Climb) → length (entriesFrom twoOverZ baseOrder i n c) ≡ n * 2
-  unfolding entriesFrom
-  entries-length i zero c = refl
-  entries-length i (suc n) c =
-      more (length (entriesFrom twoOverZ baseOrder (suc i) n (rungOf twoOverZ baseOrder i c .climb))) n (entries-length (suc i) n (rungOf twoOverZ baseOrder i c .climb))
+  fill-out : (i : ℕ) (c : Climb) → fillFrom twoOverZ baseOrder i 0 c ≡ record { climb = c; cells = [] }
+  unfolding fillFrom
+  fill-out i c = run-out never _ i (record { climb = c; cells = [] })
+
+  fill-last : (i n : ℕ) (c : Climb) → fillFrom twoOverZ baseOrder i (n + 1) c ≡ fillStep twoOverZ baseOrder (i + n) (fillFrom twoOverZ baseOrder i n c)
+  unfolding fillFrom
+  fill-last i n c = plain-last (fillStep twoOverZ baseOrder) i n (record { climb = c; cells = [] })
+
+  -- its climb is the plain one, so what is said of the plain climb's rungs and moves is said of it
+  pub fill-climb : (i n : ℕ) (c : Climb) → fillFrom twoOverZ baseOrder i n c .climb ≡ climbFrom twoOverZ baseOrder i n c
+  unfolding fillStep
+  fill-climb i zero c = ap (λ (f : Filled). f .climb) (fill-out i c) ∙ sym (climb-out twoOverZ baseOrder i c)
+  fill-climb i (suc n) c =
+      ap (λ (k : ℕ). fillFrom twoOverZ baseOrder i k c .climb) (sym (add-one n))
+      ∙ ap (λ (f : Filled). f .climb) (fill-last i n c)
+      ∙ ap (λ (d : Climb). rungOf twoOverZ baseOrder (i + n) d .climb) (fill-climb i n c)
+      ∙ sym (climb-last twoOverZ baseOrder i n c)
+      ∙ ap (λ (k : ℕ). climbFrom twoOverZ baseOrder i k c) (add-one n)
+
+  -- the entry of the rung behind n of them, from the climb that they end in
+  fill-more : (i n : ℕ) (c d : Climb) (r : Rung) → d ≡ climbFrom twoOverZ baseOrder i n c → r ≡ rungOf twoOverZ baseOrder (i + n) d
+      → fillFrom twoOverZ baseOrder i n c .cells ++ (r .entry .re ∷ r .entry .im ∷ []) ≡ fillFrom twoOverZ baseOrder i (n + 1) c .cells
+  unfolding fillStep
+  fill-more i n c d r e g =
+      ap (λ (q : Rung). fillFrom twoOverZ baseOrder i n c .cells ++ (q .entry .re ∷ q .entry .im ∷ [])) (g ∙ ap (rungOf twoOverZ baseOrder (i + n)) (e ∙ sym (fill-climb i n c)))
+      ∙ sym (ap (λ (f : Filled). f .cells) (fill-last i n c))
+
+  pub fill-length : (i n : ℕ) (c : Climb) → length (fillFrom twoOverZ baseOrder i n c .cells) ≡ n * 2
+  fill-length i zero c = ap (λ (f : Filled). length (f .cells)) (fill-out i c)
+  fill-length i (suc n) c =
+      let d = climbFrom twoOverZ baseOrder i n c in
+      let r = rungOf twoOverZ baseOrder (i + n) d in
+      ap (λ (k : ℕ). length (fillFrom twoOverZ baseOrder i k c .cells)) (sym (add-one n))
+      ∙ ap length (sym (fill-more i n c d r refl refl))
+      ∙ length-append (fillFrom twoOverZ baseOrder i n c .cells) (r .entry .re ∷ r .entry .im ∷ [])
+      ∙ more (length (fillFrom twoOverZ baseOrder i n c .cells)) n (fill-length i n c)
     where
-      more : (l n : ℕ) → l ≡ n * 2 → suc (suc l) ≡ suc n * 2
+      more : (l n : ℕ) → l ≡ n * 2 → l + 2 ≡ suc n * 2
       more l n e = omega arith
 
-  entries-next : (i to : ℕ) (c : Climb) (r : Rung) → i < to → r ≡ rungOf twoOverZ baseOrder i c
-      → entriesFrom twoOverZ baseOrder i (to - i) c ≡ r .entry .re ∷ r .entry .im ∷ entriesFrom twoOverZ baseOrder (i + 1) (to - (i + 1)) (r .climb)
-  unfolding entriesFrom
-  entries-next i to c r h e =
-      ap (λ (n : ℕ). entriesFrom twoOverZ baseOrder i n c) (one i to h)
-      ∙ ap (λ (q : Rung). q .entry .re ∷ q .entry .im ∷ entriesFrom twoOverZ baseOrder (suc i) (to - (i + 1)) (q .climb)) (sym e)
-      ∙ ap (λ (k : ℕ). r .entry .re ∷ r .entry .im ∷ entriesFrom twoOverZ baseOrder k (to - (i + 1)) (r .climb)) (sym (add-one i))
-    where
-      one : (i to : ℕ) → i < to → to - i ≡ suc (to - (i + 1))
-      one i to h = omega arith
+  -- two fills in a row
+  fill-again : (i m n : ℕ) (c : Climb)
+      → fillFrom twoOverZ baseOrder i m c .cells ++ fillFrom twoOverZ baseOrder (i + m) n (climbFrom twoOverZ baseOrder i m c) .cells ≡ fillFrom twoOverZ baseOrder i (m + n) c .cells
+  fill-again i m zero c =
+      ap (λ (f : Filled). fillFrom twoOverZ baseOrder i m c .cells ++ f .cells) (fill-out (i + m) (climbFrom twoOverZ baseOrder i m c))
+      ∙ append-nil (fillFrom twoOverZ baseOrder i m c .cells)
+      ∙ ap (λ (k : ℕ). fillFrom twoOverZ baseOrder i k c .cells) (sym (add-zero m))
+  fill-again i m (suc n) c =
+      let b = climbFrom twoOverZ baseOrder i m c in
+      let d = climbFrom twoOverZ baseOrder (i + m) n b in
+      let r = rungOf twoOverZ baseOrder (i + m + n) d in
+      let one = fillFrom twoOverZ baseOrder i m c .cells in
+      let two = fillFrom twoOverZ baseOrder (i + m) n b .cells in
+      ap (λ (k : ℕ). one ++ fillFrom twoOverZ baseOrder (i + m) k b .cells) (sym (add-one n))
+      ∙ ap (λ (l : List Float). one ++ l) (sym (fill-more (i + m) n b d r refl refl))
+      ∙ sym (append-assoc one two (r .entry .re ∷ r .entry .im ∷ []))
+      ∙ ap (λ (l : List Float). l ++ (r .entry .re ∷ r .entry .im ∷ [])) (fill-again i m n c)
+      ∙ fill-more i (m + n) c d r (climb-again twoOverZ baseOrder i m n c) (ap (λ (k : ℕ). rungOf twoOverZ baseOrder k d) (add-assoc i m n))
+      ∙ ap (λ (k : ℕ). fillFrom twoOverZ baseOrder i k c .cells) (add-one (m + n) ∙ sym (add-suc m n))
 
-  entries-end : (i to : ℕ) (c : Climb) → to ≤ i → entriesFrom twoOverZ baseOrder i (to - i) c ≡ []
-  unfolding entriesFrom
-  entries-end i to c h = ap (λ (n : ℕ). entriesFrom twoOverZ baseOrder i n c) (sub-eq-zero-of-le h)
-
-  -- the buffer d with its first cells overwritten, while the climb stands at i: what was written and what is still to come are all the cells
-  pub record Filling (all : List Float) (to : ℕ) (d : List Float) (c : Climb) (i at : ℕ) (out : List Float) : Type 0 where
-    pub written : List Float
-    pub seam : Seam d written at out
-    pub whole : all ≡ written ++ entriesFrom twoOverZ baseOrder i (to - i) c
-
-  pub filling-start : (from n : ℕ) (d : List Float) (c : Climb) → Filling (entriesFrom twoOverZ baseOrder from n c) (from + n) d c from 0 d
-  filling-start from n d c = record { written = []; seam = seam-start d; whole = ap (λ (k : ℕ). entriesFrom twoOverZ baseOrder from k c) (less from n) }
-    where
-      less : (a n : ℕ) → n ≡ a + n - a
-      less a n = omega arith
-
-  pub filling-step : {all d out : List Float} {to at i : ℕ} {c : Climb} (r : Rung) → r ≡ rungOf twoOverZ baseOrder i c → i < to → at + 1 < length d → Filling all to d c i at out
-      → Filling all to d (r .climb) (i + 1) (at + 2) (set (set out at (r .entry .re)) (at + 1) (r .entry .im))
-  filling-step {all} {d} {out} {to} {at} {i} {c} r e h l f = record {
-    written = f .written ++ (r .entry .re ∷ r .entry .im ∷ []);
-    seam = seam-pair (r .entry .re) (r .entry .im) at (at + 1) (at + 2) refl refl refl l (f .seam);
-    whole =
-        f .whole
-        ∙ ap (λ (t : List Float). f .written ++ t) (entries-next i to c r h e)
-        ∙ sym (append-assoc (f .written) (r .entry .re ∷ r .entry .im ∷ []) (entriesFrom twoOverZ baseOrder (i + 1) (to - (i + 1)) (r .climb)));
+  -- ---- part of it, in the buffer
+  pub filled-start : (from to : ℕ) (c : Climb) (place : ℕ) (before : List Float) → place ≤ length before → PartFilled twoOverZ baseOrder from to c place before c before
+  filled-start from to c place before h = record {
+    part = partway-start twoOverZ baseOrder from to c;
+    cells = subst (λ (n : ℕ). Seam before (take place before ++ fillFrom twoOverZ baseOrder from n c .cells) (place + n * 2) before) (none (c .rungs))
+        (record { count = ap length front ∙ length-take-le place before h ∙ sym here; room = subst (λ (n : ℕ). n ≤ length before) (sym here) h; same = refl; is = whole });
   }
-
-  pub filling-end : {all d out : List Float} {to at i : ℕ} {c : Climb} → to ≤ i → length d ≤ at → Filling all to d c i at out → out ≡ all
-  filling-end {all} {d} {out} {to} {at} {i} {c} h l f =
-      seam-full l (f .seam) ∙ sym (f .whole ∙ ap (λ (t : List Float). f .written ++ t) (entries-end i to c h) ∙ append-nil (f .written))
-
-  -- part of the climb more, with its cells
-  pub filling-as : {all d out out' : List Float} {to at at' i i' : ℕ} {c c' : Climb} → c ≡ c' → i ≡ i' → at ≡ at' → out ≡ out' → Filling all to d c i at out → Filling all to d c' i' at' out'
-  filling-as {all} {d} {out} {out'} {to} {at} {at'} {i} {i'} {c} {c'} e g h o f =
-      subst (Filling all to d c' i' at') o (subst (λ (k : Climb). Filling all to d k i' at' out) e (subst (λ (n : ℕ). Filling all to d c n at' out) g (subst (λ (n : ℕ). Filling all to d c i n out) h f)))
-
-  pub filling-part : {all d out : List Float} {to at i : ℕ} {c : Climb} (count : ℕ) → i + count ≤ to → at + count * 2 ≤ length d → Filling all to d c i at out
-      → Filling all to d (climbFrom twoOverZ baseOrder i count c) (i + count) (at + count * 2) (setEntries twoOverZ baseOrder i count c at out)
-  unfolding setEntries
-  filling-part {all} {d} {out} {to} {at} {i} {c} zero h l f = filling-as (sym (climb-out twoOverZ baseOrder i c)) (sym (add-zero i)) (none at) refl f
     where
-      none : (n : ℕ) → n ≡ n + 0 * 2
+      none : (n : ℕ) → 0 ≡ n - n
       none n = omega arith
-  filling-part {all} {d} {out} {to} {at} {i} {c} (suc count) h l f =
-      let r = rungOf twoOverZ baseOrder (i + count) (climbFrom twoOverZ baseOrder i count c) in
-      filling-as (sym (climb-last twoOverZ baseOrder i count c) ∙ ap (λ (n : ℕ). climbFrom twoOverZ baseOrder i n c) (add-one count)) (one i count) (two at count) refl
-      (filling-step r refl (omega arith) (omega arith) (filling-part count (omega arith) (omega arith) f))
-    where
-      one : (m n : ℕ) → m + n + 1 ≡ m + suc n
-      one m n = omega arith
 
-      two : (m n : ℕ) → m + n * 2 + 2 ≡ m + suc n * 2
-      two m n = omega arith
+      here : place + 0 * 2 ≡ place
+      here = omega arith
+
+      front : take place before ++ fillFrom twoOverZ baseOrder from 0 c .cells ≡ take place before
+      front = ap (λ (f : Filled). take place before ++ f .cells) (fill-out from c) ∙ append-nil (take place before)
+
+      whole : before ≡ (take place before ++ fillFrom twoOverZ baseOrder from 0 c .cells) ++ drop (place + 0 * 2) before
+      whole = sym (ap (λ (l : List Float). l ++ drop (place + 0 * 2) before) front ∙ ap (λ (n : ℕ). take place before ++ drop n before) here ∙ take-append-drop place before)
+
+  pub filled-length : {from to place : ℕ} {start c : Climb} {before out : List Float} → PartFilled twoOverZ baseOrder from to start place before c out → length out ≡ length before
+  filled-length p = p .cells .same
+
+  -- two parts in a row
+  pub filled-again : {from to to' place : ℕ} {a b c : Climb} {before mid out : List Float} (i at : ℕ) → i ≡ from + (b .rungs - a .rungs) → at ≡ place + (b .rungs - a .rungs) * 2 → to' ≤ to
+      → PartFilled twoOverZ baseOrder from to a place before b mid → PartFilled twoOverZ baseOrder i to' b at mid c out → PartFilled twoOverZ baseOrder from to a place before c out
+  filled-again {from} {to} {to'} {place} {a} {b} {c} {before} {mid} {out} i at e g h p q =
+      let k = b .rungs - a .rungs in
+      let n = c .rungs - b .rungs in
+      let u = p .part .counted in
+      let v = q .part .counted in
+      let l : k + n ≡ c .rungs - a .rungs = omega arith in
+      let w : at + n * 2 ≡ place + (c .rungs - a .rungs) * 2 = omega arith in
+      let s = subst (λ (m : ℕ). Seam before (take place before ++ fillFrom twoOverZ baseOrder from k a .cells) m mid) (sym g) (p .cells) in
+      let both =
+      append-assoc (take place before) (fillFrom twoOverZ baseOrder from k a .cells) (fillFrom twoOverZ baseOrder i n b .cells)
+      ∙ ap (λ (t : List Float). take place before ++ t)
+      (ap (λ (m : ℕ). fillFrom twoOverZ baseOrder from k a .cells ++ fillFrom twoOverZ baseOrder m n b .cells) e
+      ∙ ap (λ (d : Climb). fillFrom twoOverZ baseOrder from k a .cells ++ fillFrom twoOverZ baseOrder (from + k) n d .cells) (p .part .climbed)
+      ∙ fill-again from k n a
+      ∙ ap (λ (m : ℕ). fillFrom twoOverZ baseOrder from m a .cells) l) in
+      record {
+        part = partway-again twoOverZ baseOrder i e h (p .part) (q .part);
+        cells = subst (λ (m : ℕ). Seam before (take place before ++ fillFrom twoOverZ baseOrder from (c .rungs - a .rungs) a .cells) m out) w (seam-as both (seam-again (fillFrom twoOverZ baseOrder i n b .cells) (omega arith) s (q .cells)));
+      }
+
+  -- all of it
+  pub filled-whole : {from : ℕ} {start c : Climb} {before out : List Float} → length before ≤ (c .rungs - start .rungs) * 2 → PartFilled twoOverZ baseOrder from (from + length before / 2) start 0 before c out
+      → (c ≡ fillFrom twoOverZ baseOrder from (length before / 2) start .climb) × (out ≡ fillFrom twoOverZ baseOrder from (length before / 2) start .cells)
+  filled-whole {from} {start} {c} {before} {out} h p =
+      let u = p .part .inside in
+      let r = p .cells .room in
+      let l : c .rungs - start .rungs ≡ length before / 2 = omega arith in (
+        p .part .climbed ∙ ap (λ (n : ℕ). climbFrom twoOverZ baseOrder from n start) l ∙ sym (fill-climb from (length before / 2) start),
+        seam-full (omega arith) (p .cells) ∙ ap (λ (n : ℕ). fillFrom twoOverZ baseOrder from n start .cells) l,
+      )
+
+  -- ---- such a part that stands at the index i and at the place `at`, and one rung more
+  pub record Writing (from to : ℕ) (start : Climb) (place : ℕ) (before : List Float) (i : ℕ) (c : Climb) (at : ℕ) (out : List Float) : Type 0 where
+    pub index : i ≡ from + (c .rungs - start .rungs)
+    pub reached : at ≡ place + (c .rungs - start .rungs) * 2
+    pub filled : PartFilled twoOverZ baseOrder from to start place before c out
+
+  pub writing-start : (from to : ℕ) (c : Climb) (place : ℕ) (before : List Float) → place ≤ length before → Writing from to c place before from c place before
+  writing-start from to c place before h = record { index = none from (c .rungs); reached = nothing place (c .rungs); filled = filled-start from to c place before h }
+    where
+      none : (m n : ℕ) → m ≡ m + (n - n)
+      none m n = omega arith
+
+      nothing : (m n : ℕ) → m ≡ m + (n - n) * 2
+      nothing m n = omega arith
+
+  pub writing-rung : {from to place i at : ℕ} {start c : Climb} {before out : List Float} (j at' : ℕ) (out' : List Float) (r : Rung) → j ≡ i + 1 → at' ≡ at + 2 → i < to → at + 1 < length before
+      → r ≡ rungOf twoOverZ baseOrder i c → out' ≡ set (set out at (r .entry .re)) (at + 1) (r .entry .im)
+      → Writing from to start place before i c at out → Writing from to start place before j (r .climb) at' out'
+  writing-rung {from} {to} {place} {i} {at} {start} {c} {before} {out} j at' out' r u v h b e o w =
+      let k = c .rungs - start .rungs in
+      let f = w .filled in
+      let x = w .index in
+      let g = f .part .counted in
+      let l : r .climb .rungs ≡ c .rungs + 1 = ap (λ (q : Rung). q .climb .rungs) e ∙ rung-counted twoOverZ baseOrder i c in
+      let m : k + 1 ≡ r .climb .rungs - start .rungs = omega arith in
+      let p = w .reached in
+      let s = seam-pair (r .entry .re) (r .entry .im) at (at + 1) (place + (r .climb .rungs - start .rungs) * 2) p (ap (λ (n : ℕ). n + 1) p) (omega arith) (subst (λ (n : ℕ). n + 1 < length before) p b) (f .cells) in
+      let behind =
+      append-assoc (take place before) (fillFrom twoOverZ baseOrder from k start .cells) (r .entry .re ∷ r .entry .im ∷ [])
+      ∙ ap (λ (t : List Float). take place before ++ t)
+      (fill-more from k start c r (f .part .climbed) (e ∙ ap (λ (n : ℕ). rungOf twoOverZ baseOrder n c) x) ∙ ap (λ (n : ℕ). fillFrom twoOverZ baseOrder from n start .cells) m) in
+      record {
+        index = omega arith;
+        reached = omega arith;
+        filled = record {
+          part = partway-rung twoOverZ baseOrder i (r .climb) x h (ap (λ (q : Rung). q .climb) e) (f .part);
+          cells = subst (Seam before (take place before ++ fillFrom twoOverZ baseOrder from (r .climb .rungs - start .rungs) start .cells) (place + (r .climb .rungs - start .rungs) * 2)) (sym o) (seam-as behind s);
+        };
+      }
+
+-- ---- a turn of three rungs: the next value held and its entry in its place, or neither
+module _ (g : Course) (start : Climb) (from place : ℕ) (before : List Float) where
+  abbrev pub Turning : ℕ → Climb → ℕ → List Float → Type 0
+  Turning i c at out = Writing (g .«two_over_z») (g .«base_order») from (from + 3) start place before i c at out
+
+  pub turn-start : place + 6 ≤ length before → Turning from start place before
+  turn-start h = writing-start (g .«two_over_z») (g .«base_order») from (from + 3) start place before (omega arith)
+
+  pub turn-rung : {i at : ℕ} {c : Climb} {out : List Float} (j n at' : ℕ) (out' : List Float) (a : Held) → j ≡ i + 1 → n ≡ c .rungs + 1 → at' ≡ at + 2 → i < from + 3 → at + 1 < length before
+      → Belongs g (c .state) → not (a .kept) ≡ false → Written g i (c .older) (c .newer) a at out out' → Turning i c at out
+      → Turning j (record { older = c .newer; newer = a .value; state = c .state; rungs = n }) at' out'
+  turn-rung {i} {at} {c} {out} j n at' out' a u l v h r b k w =
+      writing-rung (g .«two_over_z») (g .«base_order») j at' out'
+      (record { climb = record { older = c .newer; newer = a .value; state = c .state; rungs = n }; entry = timesReal (a .value) (reciprocalOf (c .state)); moved = false }) u v h r
+      (held-rung (g .«two_over_z») (g .«base_order») i n c a l (b .most) (w .held) k)
+      (w .put ∙ ap (λ (t : Bool). putIf t (timesReal (a .value) (g .back)) at out) (kept (a .kept) k) ∙ ap (λ (f : Float). putIf true (timesReal (a .value) f) at out) (b .back))
+    where
+      kept : (t : Bool) → not t ≡ false → t ≡ true
+      kept true e = refl
+      kept false e = absurd (true≢false e)
+
+  pub turn-stop : {i at : ℕ} {c : Climb} {out : List Float} (out' : List Float) (a : Held) → not (a .kept) ≡ true → Written g i (c .older) (c .newer) a at out out' → Turning i c at out → Turning i c at out'
+  turn-stop {i} {at} {c} {out} out' a k w s = subst (Turning i c at) (sym (w .put ∙ ap (λ (t : Bool). putIf t (timesReal (a .value) (g .back)) at out) (left (a .kept) k))) s
+    where
+      left : (t : Bool) → not t ≡ true → t ≡ false
+      left true e = absurd (true≢false (sym e))
+      left false e = refl
+
+  -- one rung of it, two, three
+  module _ (room : place + 6 ≤ length before) (b : Belongs g (start .state)) where
+    pub turn-one : {o₁ : List Float} (a₁ : Held) → not (a₁ .kept) ≡ false → Written g from (start .older) (start .newer) a₁ place before o₁
+        → Turning (from + 1) (record { older = start .newer; newer = a₁ .value; state = start .state; rungs = start .rungs + 1 }) (place + 2) o₁
+    turn-one {o₁} a₁ k₁ w₁ = turn-rung (from + 1) (start .rungs + 1) (place + 2) o₁ a₁ refl refl refl (omega arith) (omega arith) b k₁ w₁ (turn-start room)
+
+    pub turn-two : {o₁ o₂ : List Float} (a₁ a₂ : Held) → not (a₁ .kept) ≡ false → Written g from (start .older) (start .newer) a₁ place before o₁
+        → not (a₂ .kept) ≡ false → Written g (from + 1) (start .newer) (a₁ .value) a₂ (place + 2) o₁ o₂
+        → Turning (from + 2) (record { older = a₁ .value; newer = a₂ .value; state = start .state; rungs = start .rungs + 2 }) (place + 4) o₂
+    turn-two {o₁} {o₂} a₁ a₂ k₁ w₁ k₂ w₂ = turn-rung (from + 2) (start .rungs + 2) (place + 4) o₂ a₂ (omega arith) (omega arith) (omega arith) (omega arith) (omega arith) b k₂ w₂ (turn-one a₁ k₁ w₁)
+
+    pub turn-three : {o₁ o₂ o₃ : List Float} (a₁ a₂ a₃ : Held) → not (a₁ .kept) ≡ false → Written g from (start .older) (start .newer) a₁ place before o₁
+        → not (a₂ .kept) ≡ false → Written g (from + 1) (start .newer) (a₁ .value) a₂ (place + 2) o₁ o₂
+        → not (a₃ .kept) ≡ false → Written g (from + 2) (a₁ .value) (a₂ .value) a₃ (place + 4) o₂ o₃
+        → Turning (from + 3) (record { older = a₂ .value; newer = a₃ .value; state = start .state; rungs = start .rungs + 3 }) (place + 6) o₃
+    turn-three {o₁} {o₂} {o₃} a₁ a₂ a₃ k₁ w₁ k₂ w₂ k₃ w₃ =
+        turn-rung (from + 3) (start .rungs + 3) (place + 6) o₃ a₃ (omega arith) (omega arith) (omega arith) (omega arith) (omega arith) b k₃ w₃ (turn-two a₁ a₂ k₁ w₁ k₂ w₂)
+
+  -- what a turn gives back
+  pub turn-length : {i at : ℕ} {c : Climb} {out : List Float} → Turning i c at out → length out ≡ length before
+  turn-length s = s .filled .cells .same
+
+  pub turn-ends : {i at : ℕ} {c : Climb} {out : List Float} {whole : Bool} (t : Turn) → t ≡ record { climb = c; whole = whole } → c .state ≡ start .state → (whole ≡ true → c .rungs ≡ start .rungs + 3) → Turning i c at out
+      → PartFilled (g .«two_over_z») (g .«base_order») from (from + 3) start place before (t .climb) out × Stays start t
+  turn-ends {i} {at} {c} {out} {whole} t e p q s =
+      subst (λ (r : Turn). PartFilled (g .«two_over_z») (g .«base_order») from (from + 3) start place before (r .climb) out × Stays start r) (sym e) (s .filled, record { state = p; three = q })

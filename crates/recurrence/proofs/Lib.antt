@@ -5,5 +5,6 @@ pub mod FirstFacts
 pub mod LimitFacts
 pub mod Magnitudes
 pub mod RungFacts
+pub mod SearchFacts
 pub mod StateFacts
 pub mod StretchFacts

@@ -14,7 +14,7 @@ use Rattle.machine.specs.Constants.{tolerance, inverseTolerance, absoluteApprox
 use Rattle.complex.specs.declared.number.Complex.{Complex}
 use Rattle.complex.specs.Arithmetic.{timesReal}
 use Rattle.complex.specs.Lost.{magnitudeOf}
-use Rattle.recurrence.specs.State.{one, reciprocalOf, boundaryOf, limitOf}
+use Rattle.recurrence.specs.State.{reciprocalOf, boundaryOf, limitOf}
 use Rattle.recurrence.specs.Rung.{exceeds, passes}
 use Rattle.recurrence.specs.declared.state.OverflowState.{OverflowState}
 use Rattle.recurrence.specs.declared.state.OverflowState.the-variants.{NearUnder, None, NearOver}

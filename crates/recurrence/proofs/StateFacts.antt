@@ -3,7 +3,8 @@ use mathlib.Core.Path.{_≡_, refl}
 use lib.Dec.{T}
 use lib.Ieee.{binary64, ofBits, lt, mul, div, round, size}
 use Rattle.machine.specs.Constants.{tolerance, inverseTolerance, absoluteApproximationLimit}
-use Rattle.recurrence.specs.State.{one, scaleOf, reciprocalOf, boundaryOf}
+use Rattle.machine.specs.Small.{one}
+use Rattle.recurrence.specs.State.{scaleOf, reciprocalOf, boundaryOf}
 use Rattle.recurrence.specs.declared.state.OverflowState.{OverflowState}
 use Rattle.recurrence.specs.declared.state.OverflowState.the-variants.{NearUnder, None, NearOver}
 

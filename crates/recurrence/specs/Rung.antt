@@ -1,4 +1,5 @@
--- One rung of a climb, K(v+1) = (2v/z) K(v) + K(v-1), and the move to the next state of scale. Definitions only.
+-- One rung of a climb, K(v+1) = (2v/z) K(v) + K(v-1), DLMF 10.29.1, and the move to the next state of scale: a turn of ZBKNU's DO 230 and DO 260;
+-- `run_recurrence_core` of src/amos/recurrence.rs and `scale_recurrence` of src/amos/limits.rs. Definitions only.
 use Prim.Native.Nat.{ℕ, _+_}
 use mathlib.Core.Bool.{Bool, true, false, _||_, cond}
 use lib.IntN.{pos}
@@ -47,7 +48,10 @@ rungOf twoOverZ baseOrder i c =
     let entry = timesReal next (reciprocalOf (c .state)) in
     let moved = passes (c .state) entry in
     record {
-      climb = cond moved (movedClimb (c .newer) entry (c .state) (c .rungs + 1)) (record { older = c .newer; newer = next; state = c .state; rungs = c .rungs + 1 });
+      climb =
+          cond moved
+          (movedClimb (c .newer) entry (c .state) (c .rungs + 1))
+          (record { older = c .newer; newer = next; state = c .state; rungs = c .rungs + 1 });
       entry = entry;
       moved = moved;
     }

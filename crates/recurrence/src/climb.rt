@@ -4,9 +4,9 @@
 ghost use mathlib.Core.Path.{_≡_};
 ghost use Prim.Native.Nat.{_+_, _-_, _<_, _≤_, _^_};
 ghost use Rattle.recurrence.specs.Climb.{climbFrom};
-ghost use Rattle.recurrence.specs.Stretch.{Partway};
+ghost use Rattle.recurrence.specs.shapes.Stretch.{Partway};
 use crate::held::factor_re;
-use crate::held::held;
+use crate::held::next_held;
 use crate::rung::rung;
 use crate::state::Climb;
 use crate::state::limit;
@@ -30,18 +30,18 @@ fn stretch(two_over_z: Complex, base_order: f64, from: u32, to: u32, start: Clim
             return reached(older, newer, state, rungs);
         }
         let q = factor_re(two_over_z, base_order, i + 1);
-        let a = held(most, p, two_over_z, base_order, i, older, newer);
+        let a = next_held(most, p, two_over_z, base_order, i, older, newer);
         let first = a.value;
         if !a.kept {
             return reached(older, newer, state, rungs);
         }
         let r = factor_re(two_over_z, base_order, i + 2);
-        let b = held(most, q, two_over_z, base_order, i + 1, newer, first);
+        let b = next_held(most, q, two_over_z, base_order, i + 1, newer, first);
         let second = b.value;
         if !b.kept {
             return reached(newer, first, state, rungs + 1);
         }
-        let c = held(most, r, two_over_z, base_order, i + 2, first, second);
+        let c = next_held(most, r, two_over_z, base_order, i + 2, first, second);
         let third = c.value;
         if !c.kept {
             return reached(first, second, state, rungs + 2);

@@ -1,19 +1,37 @@
 // The climb that fills a buffer: each rung's entry off the scale goes into the lent cells, its real part first.
 // From src/amos/recurrence.rs, run_recurrence_core with the output slice.
-// Promised: the cells are entriesFrom of specs/Climb.antt, all of them, and the climb after them is the plain climb's.
+// Promised: fillFrom of specs/Fill.antt, the climb and all the cells. Where the state of scale stays, three rungs are climbed a turn, so that
+// three pairs of values take turns and none is copied.
 ghost use mathlib.Core.Path.{_≡_};
+ghost use mathlib.Core.Bool.{false};
 ghost use Prim.Native.Nat.{_+_, _-_, _/_, _%_, _≤_, _<_, _^_};
 ghost use lib.ListN.{length, set};
-ghost use Rattle.recurrence.specs.Climb.{climbFrom, entriesFrom};
-ghost use Rattle.recurrence.specs.Stretch.{Partway, setEntries};
+ghost use Rattle.recurrence.specs.Fill.{fillFrom};
+ghost use Rattle.recurrence.specs.shapes.Stretch.{PartFilled, Belongs, Suits, Written, Stays};
+use crate::held::Held;
 use crate::held::factor_re;
-use crate::held::held;
+use crate::held::next_held;
 use crate::rung::rung;
 use crate::state::Climb;
+use crate::state::OverflowState;
 use crate::state::limit;
 use crate::state::reached;
 use crate::state::reciprocal;
 use complex::number::Complex;
+
+// What every rung of a stretch takes: 2/z, the base order, and of the state its limit and its reciprocal.
+struct Course {
+    two_over_z: Complex,
+    base_order: f64,
+    most: f64,
+    back: f64,
+}
+
+// the climb after a turn, and whether it has all three rungs
+struct Turn {
+    climb: Climb,
+    whole: bool,
+}
 
 fn put(w: Complex, out: &mut [f64], at: usize)
     requires { ⌜ at + 1 < length (now out) ⌝ }
@@ -21,6 +39,74 @@ fn put(w: Complex, out: &mut [f64], at: usize)
 {
     out[at] = w.re;
     out[at + 1] = w.im;
+}
+
+// the next value where the state stays, and its entry in its place
+fn written(
+    g: Course,
+    p: f64,
+    i: u32,
+    older: Complex,
+    newer: Complex,
+    out: &mut [f64],
+    at: usize,
+) -> Held
+    requires { ⌜ Suits g p i × (at + 1 < length (now out)) ⌝ }
+    ensures { λ r. ⌜ Written g i older newer r at (now (out .entry)) (now (out .exit)) ⌝ }
+{
+    let a = next_held(g.most, p, g.two_over_z, g.base_order, i, older, newer);
+    let value = a.value;
+    if a.kept {
+        put(value.times_real(g.back), out, at);
+        return a;
+    }
+    a
+}
+
+fn stopped(older: Complex, newer: Complex, state: OverflowState, rungs: u32) -> Turn
+    ensures { λ r. ⌜ r ≡ record { climb = record { older = older; newer = newer; state = state; rungs = rungs }; whole = false } ⌝ }
+{
+    Turn {
+        climb: reached(older, newer, state, rungs),
+        whole: false,
+    }
+}
+
+// Three rungs on which the state stays, or those of them before one that may move. The first factor's real part is handed in.
+fn three_rungs(g: Course, p: f64, i: u32, start: Climb, out: &mut [f64], at: usize) -> Turn
+    requires { ⌜ Suits g p i
+        × Belongs g (start .state)
+        × (i + 3 < 2 ^ 32)
+        × (start .rungs + 3 < 2 ^ 32)
+        × (at + 6 ≤ length (now out))
+        × (length (now out) < 2 ^ 32) ⌝ }
+    ensures { λ r. ⌜ PartFilled (g .«two_over_z») (g .«base_order») i (i + 3) start at (now (out .entry)) (r .climb) (now (out .exit))
+        × Stays start r ⌝ }
+{
+    let state = start.state;
+    let older = start.older;
+    let newer = start.newer;
+    let q = factor_re(g.two_over_z, g.base_order, i + 1);
+    let a = written(g, p, i, older, newer, out, at);
+    let first = a.value;
+    if !a.kept {
+        return stopped(older, newer, state, start.rungs);
+    }
+    let r = factor_re(g.two_over_z, g.base_order, i + 2);
+    let b = written(g, q, i + 1, newer, first, out, at + 2);
+    let second = b.value;
+    if !b.kept {
+        return stopped(newer, first, state, start.rungs + 1);
+    }
+    let c = written(g, r, i + 2, first, second, out, at + 4);
+    let third = c.value;
+    if !c.kept {
+        return stopped(first, second, state, start.rungs + 2);
+    }
+    Turn {
+        climb: reached(second, third, state, start.rungs + 3),
+        whole: true,
+    }
 }
 
 // Rungs on which the state stays, three a turn: it stops before one that may move, and where less than three are left.
@@ -32,49 +118,39 @@ fn stretch(
     out: &mut [f64],
     place: usize,
 ) -> Climb
-    requires { ⌜ (place ≤ length (now out)) × (length (now out) < 2 ^ 32) × (from + (length (now out) - place) < 2 ^ 32) × (start .rungs + (length (now out) - place) < 2 ^ 32) ⌝ }
-    ensures { λ r. ⌜ Partway «two_over_z» «base_order» from (from + (length (now (out .entry)) - place) / 2) start r × (now (out .exit) ≡ setEntries «two_over_z» «base_order» from (r .rungs - start .rungs) start place (now (out .entry))) ⌝ }
+    requires { ⌜ (place ≤ length (now out))
+        × (length (now out) < 2 ^ 32)
+        × (from + (length (now out) - place) < 2 ^ 32)
+        × (start .rungs + (length (now out) - place) < 2 ^ 32) ⌝ }
+    ensures { λ r. ⌜ PartFilled «two_over_z» «base_order» from (from + (length (now (out .entry)) - place) / 2) start
+        place (now (out .entry)) r (now (out .exit)) ⌝ }
 {
     let state = start.state;
     let most = limit(state);
     let back = reciprocal(state);
-    let mut older = start.older;
-    let mut newer = start.newer;
-    let mut rungs = start.rungs;
+    let g = Course {
+        two_over_z,
+        base_order,
+        most,
+        back,
+    };
+    let mut c = start;
     let mut i = from;
     let mut at = place;
     while at < out.len() {
         let p = factor_re(two_over_z, base_order, i);
         if out.len() - at < 6 {
-            return reached(older, newer, state, rungs);
+            return c;
         }
-        let q = factor_re(two_over_z, base_order, i + 1);
-        let a = held(most, p, two_over_z, base_order, i, older, newer);
-        let first = a.value;
-        if !a.kept {
-            return reached(older, newer, state, rungs);
+        let t = three_rungs(g, p, i, c, out, at);
+        c = t.climb;
+        if !t.whole {
+            return c;
         }
-        put(first.times_real(back), out, at);
-        let r = factor_re(two_over_z, base_order, i + 2);
-        let b = held(most, q, two_over_z, base_order, i + 1, newer, first);
-        let second = b.value;
-        if !b.kept {
-            return reached(newer, first, state, rungs + 1);
-        }
-        put(second.times_real(back), out, at + 2);
-        let c = held(most, r, two_over_z, base_order, i + 2, first, second);
-        let third = c.value;
-        if !c.kept {
-            return reached(first, second, state, rungs + 2);
-        }
-        put(third.times_real(back), out, at + 4);
-        older = second;
-        newer = third;
-        rungs += 3;
         i += 3;
         at += 6;
     }
-    reached(older, newer, state, rungs)
+    c
 }
 
 // a stretch, and the rung after it
@@ -86,8 +162,14 @@ fn onward(
     out: &mut [f64],
     place: usize,
 ) -> Climb
-    requires { ⌜ (place < length (now out)) × (length (now out) < 2 ^ 32) × ((length (now out) - place) % 2 ≡ 0) × (from + (length (now out) - place) < 2 ^ 32) × (start .rungs + (length (now out) - place) < 2 ^ 32) ⌝ }
-    ensures { λ r. ⌜ Partway «two_over_z» «base_order» from (from + (length (now (out .entry)) - place) / 2) start r × (start .rungs < r .rungs) × (now (out .exit) ≡ setEntries «two_over_z» «base_order» from (r .rungs - start .rungs) start place (now (out .entry))) ⌝ }
+    requires { ⌜ (place < length (now out))
+        × (length (now out) < 2 ^ 32)
+        × ((length (now out) - place) % 2 ≡ 0)
+        × (from + (length (now out) - place) < 2 ^ 32)
+        × (start .rungs + (length (now out) - place) < 2 ^ 32) ⌝ }
+    ensures { λ r. ⌜ PartFilled «two_over_z» «base_order» from (from + (length (now (out .entry)) - place) / 2) start
+        place (now (out .entry)) r (now (out .exit))
+        × (start .rungs < r .rungs) ⌝ }
 {
     let c = stretch(two_over_z, base_order, from, start, out, place);
     let climbed = c.rungs - start.rungs;
@@ -102,8 +184,11 @@ fn onward(
 }
 
 pub fn fill(two_over_z: Complex, base_order: f64, from: u32, start: Climb, out: &mut [f64]) -> Climb
-    requires { ⌜ (length (now out) % 2 ≡ 0) × (from + length (now out) < 2 ^ 32) × (start .rungs + length (now out) < 2 ^ 32) ⌝ }
-    ensures { λ r. ⌜ (r ≡ climbFrom «two_over_z» «base_order» from (length (now (out .entry)) / 2) start) × (now (out .exit) ≡ entriesFrom «two_over_z» «base_order» from (length (now (out .entry)) / 2) start) ⌝ }
+    requires { ⌜ (length (now out) % 2 ≡ 0)
+        × (from + length (now out) < 2 ^ 32)
+        × (start .rungs + length (now out) < 2 ^ 32) ⌝ }
+    ensures { λ r. ⌜ (r ≡ fillFrom «two_over_z» «base_order» from (length (now (out .entry)) / 2) start .climb)
+        × (now (out .exit) ≡ fillFrom «two_over_z» «base_order» from (length (now (out .entry)) / 2) start .cells) ⌝ }
 {
     let mut c = start;
     let mut climbed = 0;

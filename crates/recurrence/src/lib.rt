@@ -5,5 +5,6 @@ pub mod fill;
 pub mod first;
 pub mod held;
 pub mod rung;
+pub mod search;
 pub mod state;
 pub mod trial;

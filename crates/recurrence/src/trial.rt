@@ -1,22 +1,17 @@
-// Whether a value kept without e^-z comes on scale: by the exponent that e^-z would leave it, then by the value itself, 2^52 times too large.
+// Whether a value kept without e^-z comes on scale: by the exponent that e^-z would leave it, then by the value itself, raised by 2^52.
 // From src/amos/recurrence.rs, scale_k_recurrence (ZKSCL). Promised: the definitions of specs/Trial.antt.
 ghost use mathlib.Core.Path.{_≡_};
-ghost use Rattle.recurrence.specs.Trial.{zeroPair, failedTrial, lnMagnitude, trialOf, keptTrial, firstTrial, laterTrial};
+ghost use Rattle.recurrence.specs.Trial.{failedTrial, lnMagnitude, reachesLimit, raisedOf, keptTrial, firstTrial, laterTrial};
 use complex::lost::lost;
 use complex::number::Complex;
+use complex::number::zero_pair;
 use logarithm::ln::ln;
 use machine::constants::Machine;
 
 // What a trial gives: whether the value is kept, and the value, which is zero where it is not.
 pub struct Trial {
-    pub kept: bool,
     pub value: Complex,
-}
-
-pub fn zero_pair() -> Complex
-    ensures { λ r. ⌜ r ≡ zeroPair ⌝ }
-{
-    Complex { re: 0.0, im: 0.0 }
+    pub kept: bool,
 }
 
 pub fn failed() -> Trial
@@ -35,16 +30,23 @@ pub fn ln_magnitude(w: Complex) -> f64
     0.5 * ln(w.norm_square())
 }
 
-fn unscaled(z: Complex, w: Complex) -> Complex
-    ensures { λ r. ⌜ r ≡ trialOf z w ⌝ }
+// the exponent that e^-z leaves reaches the limit: a not-a-number does not
+pub fn reaches_limit(z: Complex, l: f64) -> bool
+    ensures { λ r. ⌜ r ≡ reachesLimit z l ⌝ }
+{
+    -z.re + l >= -Machine::EXPONENT_LIMIT
+}
+
+fn raised(z: Complex, w: Complex) -> Complex
+    ensures { λ r. ⌜ r ≡ raisedOf z w ⌝ }
 {
     w.ln().minus(z).exp().over_real(Machine::TOLERANCE)
 }
 
-pub fn kept_trial(z: Complex, w: Complex) -> Trial
+fn kept_trial(z: Complex, w: Complex) -> Trial
     ensures { λ r. ⌜ r ≡ keptTrial z w ⌝ }
 {
-    let value = unscaled(z, w);
+    let value = raised(z, w);
     if lost(value) {
         return failed();
     }
@@ -68,7 +70,7 @@ pub fn first_trial(z: Complex, w: Complex) -> Trial
 pub fn later_trial(z: Complex, w: Complex, l: f64) -> Trial
     ensures { λ r. ⌜ r ≡ laterTrial z w l ⌝ }
 {
-    if -z.re + l >= -Machine::EXPONENT_LIMIT {
+    if reaches_limit(z, l) {
         return kept_trial(z, w);
     }
     failed()

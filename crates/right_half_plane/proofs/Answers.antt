@@ -17,18 +17,18 @@ use Rattle.right_half_plane.specs.declared.seeds.Seeds.the-variants as s
 use Rattle.right_half_plane.specs.declared.seeds.Seeded.{Seeded}
 use Rattle.right_half_plane.specs.declared.reach.Reached.{Reached}
 use Rattle.right_half_plane.specs.declared.reach.Reached.the-variants as reached
-use Rattle.right_half_plane.specs.declared.kernel.Outcome.{Outcome}
-use Rattle.right_half_plane.specs.declared.kernel.Outcome.the-variants.{Answered, Refused}
+use Rattle.right_half_plane.specs.declared.kernel.Ending.{Ending}
+use Rattle.right_half_plane.specs.declared.kernel.Ending.the-variants.{Answered, Refused}
 use Rattle.right_half_plane.specs.Ground.{nearestOrder, groundOf, isAlone}
 use Rattle.right_half_plane.specs.Seeds.{seedOf}
 use Rattle.right_half_plane.specs.Reach.{stepsOf, reachOf}
 use Rattle.right_half_plane.specs.Kernel.{leadKernel, refusedKernel, reachedKernel, pairKernel, finishedKernel, seedsKernel, kernelOf}
 use Rattle.right_half_plane.proofs.Counts.{Arrives, reach-arrives}
-use Rattle.right_half_plane.proofs.LeadFacts.{scaled-rungs, first-rungs}
+use Rattle.right_half_plane.proofs.LeadFacts.{on-scale-rungs, first-rungs}
 use Rattle.right_half_plane.proofs.SeedFacts.{Kind, Seeding, seeding, few-terms}
 
 -- r + n - 2 rungs, which is none for r = 0 and n = 1; refusals 6 and 7 alone
-abbrev pub Answers : ℕ → ℕ → Outcome → Type 0
+abbrev pub Answers : ℕ → ℕ → Ending → Type 0
 Answers rungs terms (Answered counts) = (counts .rungs ≡ rungs) × (counts .backward ≤ 256) × (counts .«longest_sum» ≡ terms)
 Answers rungs terms (Refused refusal) = (refusal ≡ refusals.Start) ⊎ (refusal ≡ refusals.Climb)
 
@@ -74,13 +74,13 @@ steps-and-fill g h = go (eqb (g .count) 1) refl
         more r n h e = omega arith
 
 module _ (g : Ground) (s : Seeded) (some : 0 < g .count) (backward : s .backward ≤ 256) where
-  reached-answers : (r : Reached) → Arrives g r → Answers (g .nearest + g .count - 2) (s .terms) (reachedKernel g s r .outcome)
+  reached-answers : (r : Reached) → Arrives g r → Answers (g .nearest + g .count - 2) (s .terms) (reachedKernel g s r .ending)
   unfolding reachedKernel leadKernel refusedKernel
-  reached-answers (reached.OnScale c) e = (scaled-rungs g c ∙ ap (λ (k : ℕ). k + (g .count - 2)) e ∙ steps-and-fill g some, backward, refl)
+  reached-answers (reached.OnScale c) e = (on-scale-rungs g c ∙ ap (λ (k : ℕ). k + (g .count - 2)) e ∙ steps-and-fill g some, backward, refl)
   reached-answers (reached.Marked c) e = (first-rungs g c ∙ ap (λ (k : ℕ). k + (g .count - 2)) e ∙ steps-and-fill g some, backward, refl)
   reached-answers (reached.Refused refusal) e = inr e
 
-  seeds-answers : (v : Seeds) → Kind g v → Answers (g .nearest + g .count - 2) (s .terms) (seedsKernel g s v .outcome)
+  seeds-answers : (v : Seeds) → Kind g v → Answers (g .nearest + g .count - 2) (s .terms) (seedsKernel g s v .ending)
   unfolding seedsKernel finishedKernel pairKernel refusedKernel
   seeds-answers (seeds.Finished value) e = let a = alone-is g e in (none (g .nearest) (g .count) (a .0) (a .1), backward, refl)
     where
@@ -90,7 +90,7 @@ module _ (g : Ground) (s : Seeded) (some : 0 < g .count) (backward : s .backward
   seeds-answers (seeds.Refused refusal) e = inl e
 
 pub kernel-answers : (scaled : Bool) (order : Float) (z : Complex) (modulus : Float) (n : ℕ) → 0 < n
-    → Answers (nearestOrder order + n - 2) (seedOf (groundOf order z modulus n) scaled .terms) (kernelOf scaled order z modulus n .outcome)
+    → Answers (nearestOrder order + n - 2) (seedOf (groundOf order z modulus n) scaled .terms) (kernelOf scaled order z modulus n .ending)
 unfolding kernelOf groundOf
 kernel-answers scaled order z modulus n h =
     let g = groundOf order z modulus n in

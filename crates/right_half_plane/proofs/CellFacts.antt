@@ -9,14 +9,13 @@ use borrow.Rule.Slice.PartMut.{midOf, postOf, putMid}
 use Rattle.laws.specs.Operators.{_⊖_}
 use Rattle.laws.proofs.Seam.{seam-start, seam-pair, seam-take, seam-full}
 use Rattle.laws.proofs.Part.{front-length, rest-length, put-rest, put-both, both-length}
-use Rattle.recurrence.specs.State.{one}
-use Rattle.recurrence.specs.Climb.{climbFrom, entriesFrom}
+use Rattle.machine.specs.Small.{one}
+use Rattle.recurrence.specs.Fill.{fillFrom}
 use Rattle.recurrence.specs.declared.state.Climb.{Climb}
-use Rattle.recurrence.proofs.ClimbFacts.{climb-out}
-use Rattle.recurrence.proofs.FillFacts.{entries-length}
+use Rattle.recurrence.proofs.FillFacts.{fill-length}
 use Rattle.right_half_plane.specs.declared.ground.Ground.{Ground}
 use Rattle.right_half_plane.specs.declared.lead.Lead.{Lead}
-use Rattle.right_half_plane.specs.Kernel.{restRungs, restCells, leadCells}
+use Rattle.right_half_plane.specs.Kernel.{restOf, leadCells}
 
 pub two-cells : (d : List Float) (a b : Float) → length d ≡ 2 → set (set d 0 a) 1 b ≡ a ∷ b ∷ []
 two-cells d a b e = seam-full (few (length d) e) (seam-pair a b 0 1 2 refl refl refl (room (length d) e) (seam-start d))
@@ -41,33 +40,22 @@ many d a b h n m = four (length d) h n (λ e. m (after-two d a b ∙ e))
     four n h p q = omega arith
 
 module _ (g : Ground) (lead : Lead) where
-  few-rungs : (n : ℕ) → n ≤ 2 → lead .climb .rungs ≡ restRungs g lead n
-  unfolding restRungs
-  few-rungs n h =
-      sym (ap (λ (k : ℕ). climbFrom (g .«two_over_z») (g .order ⊖ one) (lead .zeros + 2) k (lead .climb) .rungs) (none n h) ∙ ap (λ (c : Climb). c .rungs) (climb-out (g .«two_over_z») (g .order ⊖ one) (lead .zeros + 2) (lead .climb)))
-    where
-      none : (n : ℕ) → n ≤ 2 → n - 2 ≡ 0
-      none n h = omega arith
-
-  pub rest-empty : (d : List Float) → length d ≡ 0 → (lead .climb .rungs ≡ restRungs g lead (length d / 2)) × (d ≡ restCells g lead (length d / 2))
-  unfolding restCells
-  rest-empty [] e = (few-rungs 0 (omega arith), refl)
+  pub rest-empty : (d : List Float) → length d ≡ 0 → (lead .climb .rungs ≡ restOf g lead (length d / 2) .rungs) × (d ≡ restOf g lead (length d / 2) .cells)
+  unfolding restOf
+  rest-empty [] e = (refl, refl)
   rest-empty (x ∷ d) e = absurd (none (length d) e)
     where
       none : (n : ℕ) → suc n ≡ 0 → ⊥
       none n e = omega arith
 
-  pub rest-one : (d : List Float) → length d ≡ 2 → (lead .climb .rungs ≡ restRungs g lead (length d / 2)) × (set (set d 0 (lead .first .re)) 1 (lead .first .im) ≡ restCells g lead (length d / 2))
-  unfolding restCells
+  pub rest-one : (d : List Float) → length d ≡ 2 → (lead .climb .rungs ≡ restOf g lead (length d / 2) .rungs) × (set (set d 0 (lead .first .re)) 1 (lead .first .im) ≡ restOf g lead (length d / 2) .cells)
+  unfolding restOf
   rest-one d e =
       let h : length d / 2 ≡ 1 = half (length d) e in
-      (few-rungs (length d / 2) (small (length d / 2) h), two-cells d (lead .first .re) (lead .first .im) e ∙ sym (ap (restCells g lead) h))
+      (sym (ap (λ (k : ℕ). restOf g lead k .rungs) h), two-cells d (lead .first .re) (lead .first .im) e ∙ sym (ap (λ (k : ℕ). restOf g lead k .cells) h))
     where
       half : (n : ℕ) → n ≡ 2 → n / 2 ≡ 1
       half n e = omega arith
-
-      small : (n : ℕ) → n ≡ 1 → n ≤ 2
-      small n e = omega arith
 
   -- the two entries, stored
   abbrev pub stored : List Float → List Float
@@ -86,36 +74,31 @@ module _ (g : Ground) (lead : Lead) where
   pub left-over : (d : List Float) → length (midOf 4 (length (stored d) - 4) (stored d)) ≡ length d - 4
   left-over d = rest-length 4 (stored d) ∙ ap (λ (n : ℕ). n - 4) (stored-length d)
 
-  pub rest-more : (d ys : List Float) (m : ℕ) → 4 ≤ length d → m ≡ (length d - 4) / 2 → ys ≡ entriesFrom (g .«two_over_z») (g .order ⊖ one) (lead .zeros + 2) m (lead .climb)
-      → putMid 4 (length (stored d) - 4) (stored d) ys ≡ restCells g lead (length d / 2)
-  unfolding restCells
-  rest-more d ys m h k e =
-      put-rest 4 (stored d) ys
-      ∙ ap (λ (l : List Float). l ++ ys) (stored-front d h)
-      ∙ ap (λ (l : List Float). lead .first .re ∷ lead .first .im ∷ lead .second .re ∷ lead .second .im ∷ l) e
-      ∙ sym (ap (restCells g lead) (count (length d) m h k))
-    where
-      count : (n m : ℕ) → 4 ≤ n → m ≡ (n - 4) / 2 → n / 2 ≡ suc (suc m)
-      count n m h k = omega arith
+  -- and the climb that fills behind them, of m rungs
+  module _ (d : List Float) (m : ℕ) (h : 4 ≤ length d) (k : m ≡ (length d - 4) / 2) where
+    count : (n m : ℕ) → 4 ≤ n → m ≡ (n - 4) / 2 → n / 2 ≡ suc (suc m)
+    count n m h k = omega arith
 
-  pub rungs-more : (d : List Float) (c : Climb) (m : ℕ) → 4 ≤ length d → m ≡ (length d - 4) / 2 → c ≡ climbFrom (g .«two_over_z») (g .order ⊖ one) (lead .zeros + 2) m (lead .climb) → c .rungs ≡ restRungs g lead (length d / 2)
-  unfolding restRungs
-  rungs-more d c m h k e =
-      ap (λ (t : Climb). t .rungs) e
-      ∙ ap (λ (n : ℕ). climbFrom (g .«two_over_z») (g .order ⊖ one) (lead .zeros + 2) n (lead .climb) .rungs) (count (length d) m h k)
-    where
-      count : (n m : ℕ) → 4 ≤ n → m ≡ (n - 4) / 2 → m ≡ n / 2 - 2
-      count n m h k = omega arith
+    pub rest-more : (ys : List Float) → ys ≡ fillFrom (g .«two_over_z») (g .order ⊖ one) (lead .zeros + 2) m (lead .climb) .cells → putMid 4 (length (stored d) - 4) (stored d) ys ≡ restOf g lead (length d / 2) .cells
+    unfolding restOf
+    rest-more ys e =
+        put-rest 4 (stored d) ys
+        ∙ ap (λ (l : List Float). l ++ ys) (stored-front d h)
+        ∙ ap (λ (l : List Float). lead .first .re ∷ lead .first .im ∷ lead .second .re ∷ lead .second .im ∷ l) e
+        ∙ sym (ap (λ (n : ℕ). restOf g lead n .cells) (count (length d) m h k))
 
-  pub kept-length : (d ys : List Float) (m : ℕ) → length d % 2 ≡ 0 → 4 ≤ length d → m ≡ (length d - 4) / 2 → ys ≡ entriesFrom (g .«two_over_z») (g .order ⊖ one) (lead .zeros + 2) m (lead .climb)
-      → length (putMid 4 (length (stored d) - 4) (stored d) ys) ≡ length d
-  kept-length d ys m p h k e =
-      ap length (put-rest 4 (stored d) ys)
-      ∙ length-append (take 4 (stored d)) ys
-      ∙ count (length (take 4 (stored d))) (length ys) (length d) m p h k (ap length (stored-front d h)) (ap length e ∙ entries-length (g .«two_over_z») (g .order ⊖ one) (lead .zeros + 2) m (lead .climb))
-    where
-      count : (t y n m : ℕ) → n % 2 ≡ 0 → 4 ≤ n → m ≡ (n - 4) / 2 → t ≡ 4 → y ≡ m * 2 → t + y ≡ n
-      count t y n m p h k e f = omega arith
+    pub rungs-more : (c : Climb) → c ≡ fillFrom (g .«two_over_z») (g .order ⊖ one) (lead .zeros + 2) m (lead .climb) .climb → c .rungs ≡ restOf g lead (length d / 2) .rungs
+    unfolding restOf
+    rungs-more c e = ap (λ (t : Climb). t .rungs) e ∙ sym (ap (λ (n : ℕ). restOf g lead n .rungs) (count (length d) m h k))
+
+    pub kept-length : (ys : List Float) → length d % 2 ≡ 0 → ys ≡ fillFrom (g .«two_over_z») (g .order ⊖ one) (lead .zeros + 2) m (lead .climb) .cells → length (putMid 4 (length (stored d) - 4) (stored d) ys) ≡ length d
+    kept-length ys p e =
+        ap length (put-rest 4 (stored d) ys)
+        ∙ length-append (take 4 (stored d)) ys
+        ∙ whole (length (take 4 (stored d))) (length ys) (length d) m p h k (ap length (stored-front d h)) (ap length e ∙ fill-length (g .«two_over_z») (g .order ⊖ one) (lead .zeros + 2) m (lead .climb))
+      where
+        whole : (t y n m : ℕ) → n % 2 ≡ 0 → 4 ≤ n → m ≡ (n - 4) / 2 → t ≡ 4 → y ≡ m * 2 → t + y ≡ n
+        whole t y n m p h k e f = omega arith
 
 -- ---- the zeros, and then the rest: the cells xs, of which ys are the zeros and zs the rest
 module _ (g : Ground) (lead : Lead) (xs ys : List Float) (h : length xs ≡ g .count * 2) (z : lead .zeros ≤ g .count) (e : ys ≡ replicate (length (midOf 0 (lead .zeros * 2 - 0) xs)) (ofBits binary64 0)) where
@@ -139,13 +122,13 @@ module _ (g : Ground) (lead : Lead) (xs ys : List Float) (h : length xs ≡ g .c
       half : (n k l : ℕ) → l ≡ n * 2 → k ≤ n → (l - k * 2) / 2 ≡ n - k
       half n k l h z = omega arith
 
-  pub delivered-rungs : (r : ℕ) → r ≡ restRungs g lead (lent / 2) → r ≡ restRungs g lead (g .count - lead .zeros)
-  delivered-rungs r f = f ∙ ap (restRungs g lead) pairs
+  pub delivered-rungs : (r : ℕ) → r ≡ restOf g lead (lent / 2) .rungs → r ≡ restOf g lead (g .count - lead .zeros) .rungs
+  delivered-rungs r f = f ∙ ap (λ (n : ℕ). restOf g lead n .rungs) pairs
 
-  pub delivered-cells : (zs : List Float) → zs ≡ restCells g lead (lent / 2)
+  pub delivered-cells : (zs : List Float) → zs ≡ restOf g lead (lent / 2) .cells
       → putMid (lead .zeros * 2) (length (ys ++ postOf 0 (lead .zeros * 2 - 0) xs) - lead .zeros * 2) (ys ++ postOf 0 (lead .zeros * 2 - 0) xs) zs ≡ leadCells g lead
   unfolding leadCells
   delivered-cells zs f =
       put-both (lead .zeros * 2) xs ys zs filled-length
       ∙ ap (λ (l : List Float). l ++ zs) filled
-      ∙ ap (λ (l : List Float). replicate (lead .zeros * 2) (ofBits binary64 0) ++ l) (f ∙ ap (restCells g lead) pairs)
+      ∙ ap (λ (l : List Float). replicate (lead .zeros * 2) (ofBits binary64 0) ++ l) (f ∙ ap (λ (n : ℕ). restOf g lead n .cells) pairs)

@@ -1,91 +1,48 @@
--- The climb out of underflow counts each rung once and resumes at the next offset; to the first order wanted there are r rungs, or r - 1. Assumes nothing.
+-- The climb out of underflow resumes at the offset behind its rungs; to the first order wanted there are r rungs, or r - 1. Assumes nothing.
 use mathlib.Core.Path.{_≡_, refl, sym, ap, _∙_, subst}
 use mathlib.Core.Bool.{Bool, true, false, _&&_, _||_, cond}
-use Prim.Native.Nat.{ℕ, suc, _+_, _-_, _≤_, _<_}
+use Prim.Native.Nat.{ℕ, _+_, _-_, _≤_, _<_}
 use native.Mathlib.Omega.{arith}
 use lib.Dec.{eqb, ltb}
 use borrow.Author.Tests.{eqb-true}
 use lib.Ieee.{Float}
 use Rattle.laws.specs.Operators.{_⊖_}
-use Rattle.laws.specs.Run.{run}
-use Rattle.laws.proofs.Run.{run-stop, run-next, run-end, run-ends}
+use Rattle.machine.specs.Small.{one}
 use Rattle.complex.specs.declared.number.Complex.{Complex}
 use Rattle.refusal.specs.declared.refusal.Refusal.{Refusal}
 use Rattle.refusal.specs.declared.refusal.Refusal.the-variants as refusals
-use Rattle.recurrence.specs.State.{one}
 use Rattle.recurrence.specs.Climb.{climbFrom}
-use Rattle.recurrence.specs.First.{loweringFactor}
+use Rattle.recurrence.specs.Trial.{failedTrial}
+use Rattle.recurrence.specs.Search.{isFound, searchAt, searchFrom}
+use Rattle.recurrence.specs.declared.search.Search.{Search}
+use Rattle.recurrence.specs.declared.search.Rule.the-variants.{OutOfUnderflow}
 use Rattle.recurrence.specs.declared.state.OverflowState.the-variants.{NearUnder}
 use Rattle.recurrence.specs.declared.state.Climb.{Climb}
 use Rattle.recurrence.proofs.ClimbFacts.{rungs-climbed}
+use Rattle.recurrence.proofs.SearchFacts.{search-ends}
 use Rattle.right_half_plane.specs.declared.ground.Ground.{Ground}
-use Rattle.right_half_plane.specs.declared.recover.Recovery.{Recovery}
 use Rattle.right_half_plane.specs.declared.recover.Recovered.{Recovered}
 use Rattle.right_half_plane.specs.declared.recover.Recovered.the-variants as recovered
 use Rattle.right_half_plane.specs.declared.reach.Reached.{Reached}
 use Rattle.right_half_plane.specs.declared.reach.Reached.the-variants as reached
 use Rattle.right_half_plane.specs.Ground.{Sized}
-use Rattle.right_half_plane.specs.Recover.{isRecovered, startRecovery, loweredOf, isLowered, afterTrial, recoverStep, recoveryFrom, isZeroPair, neighboursOf, settledOf, recoverOf}
+use Rattle.right_half_plane.specs.Recover.{isZeroPair, neighboursOf, settledOf, recoverOf}
 use Rattle.right_half_plane.specs.Reach.{stepsOf, wantedOf, restingOf, climbedOf, resumedOf, begunOf, reachOf, Few}
 
--- ---- one rung of the climb out of underflow
-after-rungs : (f l : Float) (s : Recovery) → afterTrial f l s .rungs ≡ s .rungs
-unfolding afterTrial loweredOf
-after-rungs f l s = go (s .latest .kept) (isLowered (s .argument) l)
+-- ---- the climb out of underflow: two neighbours and the offset behind the rungs climbed, or refusal 7
+pub recovery-rungs : (fraction : Float) (twoOverZ : Complex) (steps : ℕ) (s : Search) → s .rungs ≡ 0 → searchFrom OutOfUnderflow fraction twoOverZ steps s .rungs ≤ steps
+recovery-rungs fraction twoOverZ steps s z = few _ (s .rungs) steps z (search-ends OutOfUnderflow fraction twoOverZ steps s .few)
   where
-    go : (a b : Bool) → cond a s (cond b (loweredOf f s) s) .rungs ≡ s .rungs
-    go true b = refl
-    go false true = refl
-    go false false = refl
+    few : (r a n : ℕ) → a ≡ 0 → r ≤ a + n → r ≤ n
+    few r a n e h = omega arith
 
-pub step-counted : (f fraction : Float) (twoOverZ : Complex) (i : ℕ) (s : Recovery) → recoverStep f fraction twoOverZ i s .rungs ≡ s .rungs + 1
-unfolding recoverStep
-step-counted f fraction twoOverZ i s = after-rungs f _ _
-
--- ---- all of it, as the code counts: the offset i is next
-module _ (fraction : Float) (twoOverZ : Complex) (steps : ℕ) where
-  abbrev pub recoveryLeft : ℕ → Recovery → Recovery
-  recoveryLeft i s = run (λ k t. isRecovered t) (recoverStep loweringFactor fraction twoOverZ) (steps + 2 - i) i s
-
-  pub recovery-start : (s : Recovery) → recoveryFrom fraction twoOverZ steps s ≡ recoveryLeft 2 s
-  unfolding recoveryFrom
-  recovery-start s = ap (λ (k : ℕ). run (λ j t. isRecovered t) (recoverStep loweringFactor fraction twoOverZ) k 2 s) (two steps)
-    where
-      two : (n : ℕ) → n ≡ n + 2 - 2
-      two n = omega arith
-
-  pub recovery-next : (i : ℕ) (s : Recovery) → i < steps + 2 → isRecovered s ≡ false → recoveryLeft i s ≡ recoveryLeft (i + 1) (recoverStep loweringFactor fraction twoOverZ i s)
-  recovery-next i s h e = run-next _ _ (steps + 2) i s h e
-
-  pub recovery-found : (i : ℕ) (s : Recovery) → isRecovered s ≡ true → recoveryLeft i s ≡ s
-  recovery-found i s e = run-stop _ _ (steps + 2 - i) i s e
-
-  pub recovery-end : (i : ℕ) (s : Recovery) → steps + 2 ≤ i → recoveryLeft i s ≡ s
-  recovery-end i s h = run-end _ _ (steps + 2) i s h
-
-  pub recovery-rungs : (s : Recovery) → s .rungs ≡ 0 → recoveryFrom fraction twoOverZ steps s .rungs ≤ steps
-  unfolding recoveryFrom
-  recovery-rungs s z =
-      let e = run-ends (λ k t. isRecovered t) (recoverStep loweringFactor fraction twoOverZ) (λ k t. t .rungs + 2 ≡ k) keep steps 2 s (ap (λ (k : ℕ). k + 2) z) in
-      few (run (λ k t. isRecovered t) (recoverStep loweringFactor fraction twoOverZ) steps 2 s .rungs) (e .k) steps (e .holds) (e .to)
-    where
-      keep : (k : ℕ) (t : Recovery) → isRecovered t ≡ false → t .rungs + 2 ≡ k → recoverStep loweringFactor fraction twoOverZ k t .rungs + 2 ≡ suc k
-      keep k t f e = more (recoverStep loweringFactor fraction twoOverZ k t .rungs) (t .rungs) k (step-counted loweringFactor fraction twoOverZ k t) e
-        where
-          more : (a b k : ℕ) → a ≡ b + 1 → b + 2 ≡ k → a + 2 ≡ suc k
-          more a b k g e = omega arith
-
-      few : (a k n : ℕ) → a + 2 ≡ k → k ≤ 2 + n → a ≤ n
-      few a k n e h = omega arith
-
--- ---- what it gives: two neighbours and the offset behind the rungs climbed, or refusal 7
 abbrev pub Resumes : ℕ → Recovered → Type 0
 Resumes steps (recovered.Neighbours n) = (n .climb .rungs ≤ steps) × (n .«next_offset» ≡ n .climb .rungs + 2)
 Resumes steps (recovered.Refused refusal) = refusal ≡ refusals.Climb
 
-settled-resumes : (steps : ℕ) (s : Recovery) → s .rungs ≤ steps → Resumes steps (settledOf s)
+settled-resumes : (steps : ℕ) (s : Search) → s .rungs ≤ steps → Resumes steps (settledOf s)
 unfolding settledOf neighboursOf
-settled-resumes steps s h = go (isRecovered s) (isZeroPair (s .before .value) || isZeroPair (s .latest .value))
+settled-resumes steps s h = go (isFound s) (isZeroPair (s .before .value) || isZeroPair (s .latest .value))
   where
     go : (a b : Bool) → Resumes steps (cond a (cond b (recovered.Refused refusals.Climb) (recovered.Neighbours (record { climb = record { older = s .before .value; newer = s .latest .value; state = NearUnder; rungs = s .rungs }; «next_offset» = s .rungs + 2 }))) (recovered.Refused refusals.Climb))
     go false b = refl
@@ -93,8 +50,8 @@ settled-resumes steps s h = go (isRecovered s) (isZeroPair (s .before .value) ||
     go true false = (h, refl)
 
 pub recover-resumes : (fraction : Float) (twoOverZ z : Complex) (steps : ℕ) (first second : Complex) → Resumes steps (recoverOf fraction twoOverZ z steps first second)
-unfolding recoverOf startRecovery
-recover-resumes fraction twoOverZ z steps first second = settled-resumes steps _ (recovery-rungs fraction twoOverZ steps (startRecovery first second z) refl)
+unfolding recoverOf
+recover-resumes fraction twoOverZ z steps first second = settled-resumes steps _ (recovery-rungs fraction twoOverZ steps (searchAt z first second failedTrial failedTrial) refl)
 
 -- ---- the rungs to the first order wanted
 pub steps-few : (g : Ground) → Sized g → stepsOf g ≤ 1000

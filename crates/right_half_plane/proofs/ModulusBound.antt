@@ -17,9 +17,9 @@ use Rattle.laws.proofs.Relative.{round-finite, round-nonnegative, positive-nonn
 use Rattle.laws.proofs.Bound.{Up, Lo, up-test, lo-test, up-weaken, up-of-le, up-finite, lo-of-le, lo-bound, lo-positive, up-lo-le, range-test, mul-up, add-up}
 use Rattle.roots.specs.Hypot.{rootAt, sumOfSquares, leastSum, greatestSum, larger, smaller, scaledHypot, fullHypot, hypotOf}
 use Rattle.roots.proofs.HypotCases.{full-within, full-above, full-below}
-use Rattle.roots.proofs.HypotSum.{Summed, summed, square-round}
-use Rattle.roots.proofs.HypotRange.{below-ceiling}
-use Rattle.roots.proofs.HypotParts.{Part, least-value, parts-finite, up-part}
+use Rattle.roots.proofs.HypotSum.{Summed, square-round}
+use Rattle.roots.proofs.HypotParts.{Part}
+use Rattle.roots.proofs.HypotScaled.{Scaled, squareBy, scaled-up}
 use Rattle.roots.proofs.HypotRoot.{from-squares, root-close}
 
 -- ---- the root of a value up to P is at most R, where P is a little below R squared
@@ -96,41 +96,17 @@ smaller-up : Up smaller 1 (2 ^ 600)
 unfolding smaller ofBits
 smaller-up = up-test smaller 1 (2 ^ 600) tt
 
--- the sum, of the squares of the parts' own fractions
-pub summed-is : (x y : Float) → T (finite x) → T (finite y) → sumOfSquares x y ≡ add binary64 (round binary64 false (num x * num x) (den x * den x)) (round binary64 false (num y * num y) (den y * den y))
-unfolding sumOfSquares
-summed-is x y f g =
-    ap (λ (z : Float). add binary64 z (mul binary64 y y)) (square-round x (sign x) (num x) (den x) (den-pos x) (own-fraction x f))
-    ∙ ap (λ (z : Float). add binary64 (round binary64 false (num x * num x) (den x * den x)) z) (square-round y (sign y) (num y) (den y) (den-pos y) (own-fraction y g))
-
-thin : (n d : ℕ) → n * n * 2 ^ 798 ≤ d * d → n * 2 ^ 399 ≤ d
-thin n d h = from-squares (n * 2 ^ 399) d (le-trans (le-of-eq (mul-mul-mul-comm n (2 ^ 399) n (2 ^ 399))) h)
-
 module _ (x y : Float) (Fx : T (fits binary64 x)) (Fy : T (fits binary64 y)) (fx : T (finite x)) (fy : T (finite y)) where
   below : 0 < num x → le leastSum (sumOfSquares x y) ≡ false → Up (scaledHypot larger smaller x y) (2 ^ 16) 1
   unfolding scaledHypot sumOfSquares
   below px h =
-      let K = 2 ^ 600 in
-      let C : 0 < den x * den x = mul-pos (den-pos x) (den-pos x) in
-      let D : 0 < den y * den y = mul-pos (den-pos y) (den-pos y) in
-      let c = below-ceiling (num x * num x) (den x * den x) (num y * num y) (den y * den y) C D (ap (λ (z : Float). le leastSum z) (sym (summed-is x y fx fy)) ∙ h) in
-      let p = up-part x Fx fx (thin (num x) (den x) (c .0)) in
-      let q = up-part y Fy fy (thin (num y) (den y) (c .1)) in
-      let A = mul binary64 (mul binary64 x larger) (mul binary64 x larger) in
-      let B = mul binary64 (mul binary64 y larger) (mul binary64 y larger) in
-      let a = num x * K * (num x * K) in
-      let b = num y * K * (num y * K) in
-      let l = least-value x Fx px in
-      let m : den x * den x ≤ a * 2 ^ 1000 =
-      le-trans (mul-le-mul l l)
-      (le-trans (le-of-eq (mul-mul-mul-comm (num x) (2 ^ 1074) (num x) (2 ^ 1074)))
-      (le-trans (mul-le-mul-left (num x * num x) (lit≤ {m = 2 ^ 1074 * 2 ^ 1074} {n = 2 ^ 600 * 2 ^ 600 * 2 ^ 1000} tt))
-      (le-of-eq (sym (mul-assoc (num x * num x) (2 ^ 600 * 2 ^ 600) (2 ^ 1000)) ∙ ap (λ (t : ℕ). t * 2 ^ 1000) (sym (mul-mul-mul-comm (num x) (2 ^ 600) (num x) (2 ^ 600))))))) in
-      let g : den x * den x * (den y * den y) ≤ (a * (den y * den y) + b * (den x * den x)) * 2 ^ 1000 =
-      le-trans (mul-le-mul-right (den y * den y) m) (le-trans (le-of-eq (mul-right-comm a (2 ^ 1000) (den y * den y))) (mul-le-mul-right (2 ^ 1000) (le-add-right (a * (den y * den y)) (b * (den x * den x))))) in
-      let s = summed A B a (den x * den x) b (den y * den y) (p .bare) (q .bare) (p .mixed) (q .mixed) C D g (parts-finite A B a (den x * den x) b (den y * den y) p q) in
-      let u : Up (add binary64 A B) (2 ^ 902) 1 = add-up binary64 (2 ^ 902) 1 (range-test binary64 (2 ^ 902) 1 tt) (lit≤ tt) (up-of-le A (round binary64 false (2 ^ 900) 1) (p .bare) (p .under) scaled-bound) (up-of-le B (round binary64 false (2 ^ 900) 1) (q .bare) (q .under) scaled-bound) in
-      let r = root-up (add binary64 A B) (2 ^ 902) (2 ^ 452) (add-fits binary64 A B) (s .isPositive) (s .normal) u (lit≤ tt) in
+      let s = scaled-up x y Fx Fy fx fy px h in
+      let A = squareBy larger x in
+      let B = squareBy larger y in
+      let high = round binary64 false (2 ^ 900) 1 in
+      let u : Up (add binary64 A B) (2 ^ 902) 1 =
+      add-up binary64 (2 ^ 902) 1 (range-test binary64 (2 ^ 902) 1 tt) (lit≤ tt) (up-of-le A high (s .first .bare) (s .first .under) scaled-bound) (up-of-le B high (s .second .bare) (s .second .under) scaled-bound) in
+      let r = root-up (add binary64 A B) (2 ^ 902) (2 ^ 452) (add-fits binary64 A B) (s .sum .isPositive) (s .sum .normal) u (lit≤ tt) in
       up-weaken (2 ^ 16) 1 (lit< tt) (lit≤ tt) (mul-up binary64 1 1 (range-test binary64 1 1 tt) (lit≤ tt) r smaller-up)
 
   full-up : num x ≤ 2 ^ 15 * den x → num y ≤ 2 ^ 15 * den y → 0 < num x → Up (fullHypot x y) (2 ^ 16) 1

@@ -7,8 +7,8 @@ use Rattle.circular.specs.CosPi.{cosPiOf}
 use Rattle.circular.proofs.Zeros.{cosPi-zero}
 use Rattle.complex.specs.Lost.{magnitudeOf}
 use Rattle.laws.proofs.Zero.{zeroOf, zero-is}
-use Rattle.right_half_plane.specs.Seeds.{rotationOf}
-use Rattle.recurrence.specs.State.{one}
+use Rattle.machine.specs.Small.{one}
+use Rattle.right_half_plane.specs.ByMiller.{rotationOf}
 
 cosine : (s : Bool) → cosPiOf (zeroOf s) ≡ one
 unfolding ofBits cosPiOf

@@ -3,8 +3,8 @@ use mathlib.Core.Path.{_≡_, refl, sym, subst}
 use mathlib.Core.Bool.{Bool, true, false, not, _&&_, cond}
 use Prim.Native.Nat.{ℕ, _≤_, zero-le}
 use lib.Dec.{T, lit≤}
-use lib.Ieee.{Float, binary64, ofBits, le}
-use Rattle.machine.specs.Constants.{tolerance}
+use lib.Ieee.{Float, le}
+use Rattle.machine.specs.Small.{two}
 use Rattle.complex.specs.declared.number.Complex.{Complex}
 use Rattle.complex.specs.Functions.{argumentOf, complexLnOf, complexExpOf, complexCoshOf, complexSinhOf}
 use Rattle.complex.specs.Arithmetic.{timesReal}
@@ -26,7 +26,9 @@ use Rattle.right_half_plane.specs.declared.seeds.Seeds.{Seeds}
 use Rattle.right_half_plane.specs.declared.seeds.Seeds.the-variants.{Finished, Pair, Refused}
 use Rattle.right_half_plane.specs.declared.seeds.Seeded.{Seeded}
 use Rattle.right_half_plane.specs.Ground.{isAlone}
-use Rattle.right_half_plane.specs.Seeds.{isHalf, growthState, growthOf, grownBy, temmePair, temmeSeeds, orderOf, pointWith, isFar, coefficientOf, halfSeeds, millerSeeds, otherSeeds, isNear, seedOf}
+use Rattle.right_half_plane.specs.ByTemme.{growthState, growthOf, grownBy, temmePair, temmeSeeds}
+use Rattle.right_half_plane.specs.ByMiller.{isHalf, orderOf, pointWith, isFar, coefficientOf, halfSeeds, millerSeeds, otherSeeds}
+use Rattle.right_half_plane.specs.Seeds.{isNear, seedOf}
 
 abbrev pub Kind : Ground → Seeds → Type 0
 Kind g (Finished value) = isAlone g ≡ true
@@ -105,7 +107,7 @@ other-terms g scaled = go (isHalf (g .fraction))
 
 pub few-terms : (g : Ground) (scaled : Bool) → seedOf g scaled .terms ≤ 18
 unfolding seedOf isNear temmeSeeds
-few-terms g scaled = go (isHalf (g .fraction)) (le (g .modulus) (ofBits binary64 0x4000000000000000)) refl
+few-terms g scaled = go (isHalf (g .fraction)) (le (g .modulus) two) refl
   where
     t : Temme
     t = seedsOf (g .z) (g .modulus) (complexLnOf (g .«two_over_z»)) (g .fraction) (g .square)
@@ -117,7 +119,7 @@ few-terms g scaled = go (isHalf (g .fraction)) (le (g .modulus) (ofBits binary64
     alone true h = h
     alone false h = h
 
-    go : (a b : Bool) → le (g .modulus) (ofBits binary64 0x4000000000000000) ≡ b → cond {A = Seeded} (not a && b) (temmeSeeds g scaled) (otherSeeds g scaled) .terms ≤ 18
+    go : (a b : Bool) → le (g .modulus) two ≡ b → cond {A = Seeded} (not a && b) (temmeSeeds g scaled) (otherSeeds g scaled) .terms ≤ 18
     go true b e = other-terms g scaled
     go false false e = other-terms g scaled
     go false true e = alone (isAlone g) (seeds-terms (g .z) (g .modulus) (g .fraction) (g .square) (subst T (sym e) tt) (complexLnOf (g .«two_over_z»)))

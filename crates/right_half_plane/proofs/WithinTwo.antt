@@ -19,22 +19,19 @@ use Rattle.roots.specs.Hypot.{rootAt, sumOfSquares, leastSum, greatestSum, larg
 use Rattle.roots.specs.Close.{squaresOver, squaresUnder}
 use Rattle.roots.proofs.WholeRoot.{which}
 use Rattle.roots.proofs.HypotCases.{sum-parts, within-range, full-within, full-above}
-use Rattle.roots.proofs.HypotSum.{summed, square-round}
-use Rattle.roots.proofs.HypotRange.{above-floor, below-ceiling}
-use Rattle.roots.proofs.HypotParts.{parts-finite, down-part}
+use Rattle.roots.proofs.HypotSum.{Summed, square-round}
+use Rattle.roots.proofs.HypotRange.{below-ceiling}
 use Rattle.roots.proofs.HypotRoot.{from-squares, root-close}
+use Rattle.roots.proofs.HypotScaled.{Scaled, squareBy, summed-is, large-sum, scaled-down}
 use Rattle.roots.proofs.HypotFacts.{hypot-close}
 use Rattle.roots.proofs.HypotValues.{hypot-symmetric}
 use Rattle.complex.specs.declared.number.Complex.{Complex}
 use Rattle.complex.specs.Functions.{modulusOf}
 use Rattle.complex.specs.Lost.{magnitudeOf}
-use Rattle.right_half_plane.specs.Seeds.{two}
-use Rattle.right_half_plane.proofs.ModulusBound.{summed-is, modulus-up}
+use Rattle.machine.specs.Small.{nothing, two}
+use Rattle.right_half_plane.proofs.ModulusBound.{modulus-up}
 
--- 0, 1.40625 and 2.25
-abbrev nothing : Float
-nothing = ofBits binary64 0
-
+-- 1.40625 and 2.25
 abbrev pub inner : Float
 inner = ofBits binary64 0x3FF6800000000000
 
@@ -196,24 +193,16 @@ module _ (x y : Float) (Fx : T (fits binary64 x)) (Fy : T (fits binary64 y)) (fx
   unfolding scaledHypot sumOfSquares
   above h =
       let K = 2 ^ 600 in
-      let p = down-part x Fx fx in
-      let q = down-part y Fy fy in
-      let A = mul binary64 (mul binary64 x smaller) (mul binary64 x smaller) in
-      let B = mul binary64 (mul binary64 y smaller) (mul binary64 y smaller) in
-      let a = num x * num x in
-      let b = num y * num y in
+      let s = scaled-down x y Fx Fy fx fy h in
+      let A = squareBy smaller x in
+      let B = squareBy smaller y in
       let c = den x * K * (den x * K) in
       let d = den y * K * (den y * K) in
-      let c+ : 0 < c = mul-pos (mul-pos (den-pos x) (pow-pos 600)) (mul-pos (den-pos x) (pow-pos 600)) in
-      let d+ : 0 < d = mul-pos (mul-pos (den-pos y) (pow-pos 600)) (mul-pos (den-pos y) (pow-pos 600)) in
-      let f : squaresUnder x y * 2 ^ 998 ≤ squaresOver x y = above-floor a (den x * den x) b (den y * den y) C D (ap (λ (z : Float). le z greatestSum) (sym (summed-is x y fx fy)) ∙ h) in
-      let w : c * d ≤ (a * d + b * c) * 2 ^ 202 = spread (num x) (den x) (num y) (den y) f in
-      let g : c * d ≤ (a * d + b * c) * 2 ^ 1000 = le-trans w (mul-le-mul-left (a * d + b * c) (lit≤ {m = 2 ^ 202} {n = 2 ^ 1000} tt)) in
-      let F = parts-finite A B a c b d p q in
-      let s = summed A B a c b d (p .bare) (q .bare) (p .mixed) (q .mixed) c+ d+ g F in
+      let P = num x * num x * d + num y * num y * c in
+      let w : c * d ≤ P * 2 ^ 202 = spread (num x) (den x) (num y) (den y) (large-sum x y Fx Fy fx fy h) in
       let S = add binary64 A B in
-      let l : Lo S 1 (2 ^ 203) = lo-weaken 1 (2 ^ 203) (pow-pos 203) (halved (c * d) (a * d + b * c) w) (lo-of-rat S (positive-nonnegative S (s .isPositive)) (pow-pos 51) (mul-pos c+ d+) (s .close)) in
-      let r = root-lo S 1 (2 ^ 203) 1 (2 ^ 102) (add-fits binary64 A B) (s .isPositive) (s .normal) F l (pow-pos 102) (lit≤ tt) in
+      let l : Lo S 1 (2 ^ 203) = lo-weaken 1 (2 ^ 203) (pow-pos 203) (halved (c * d) P w) (lo-of-rat S (positive-nonnegative S (s .sum .isPositive)) (pow-pos 51) (s .over) (s .sum .close)) in
+      let r = root-lo S 1 (2 ^ 203) 1 (2 ^ 102) (add-fits binary64 A B) (s .sum .isPositive) (s .sum .normal) (s .isFinite) l (pow-pos 102) (lit≤ tt) in
       mul-lo binary64 17 8 (lit< tt) (lit≤ tt) (lit≤ tt) r larger-lo
     where
       halved : (Q P : ℕ) → Q ≤ P * 2 ^ 202 → 1 * (2 ^ 51 * Q) ≤ (2 ^ 51 - 1) * P * 2 ^ 203

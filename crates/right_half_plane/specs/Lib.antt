@@ -1,4 +1,6 @@
 -- The definitions, by topic.
+pub mod ByMiller
+pub mod ByTemme
 pub mod Ground
 pub mod Kernel
 pub mod Lead

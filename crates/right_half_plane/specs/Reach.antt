@@ -1,10 +1,11 @@
--- The climb from the seeds to the first order wanted. Definitions only.
+-- The climb from the seeds to the first order wanted: ZBKNU from label 210 to label 240 (zbknu.f), with the climb out of underflow where it is marked;
+-- `k_right_half_plane` of src/amos/right_half_plane.rs. Definitions only.
 use Prim.Native.Nat.{ℕ, _+_, _-_, _≤_}
 use mathlib.Core.Bool.{Bool, _&&_, cond}
 use lib.Dec.{eqb, ltb}
 use lib.Ieee.{Float}
 use Rattle.laws.specs.Operators.{_⊖_}
-use Rattle.recurrence.specs.State.{one}
+use Rattle.machine.specs.Small.{one}
 use Rattle.recurrence.specs.Climb.{climbFrom}
 use Rattle.recurrence.specs.declared.state.Climb.{Climb}
 use Rattle.right_half_plane.specs.declared.ground.Ground.{Ground}
@@ -20,13 +21,15 @@ stepsOf g = cond (eqb (g .count) 1) (g .nearest - 1) (g .nearest)
 
 -- one value alone is the newer of the two, unless it is the first seed
 unfoldable pub wantedOf : Ground → Climb → Climb
-wantedOf g c = cond (eqb (g .count) 1 && ltb 0 (g .nearest)) (record { older = c .newer; newer = c .newer; state = c .state; rungs = c .rungs }) c
+wantedOf g c =
+    cond (eqb (g .count) 1 && ltb 0 (g .nearest)) (record { older = c .newer; newer = c .newer; state = c .state; rungs = c .rungs }) c
 
 -- with no rung to climb, underflow stays marked
 unfoldable pub restingOf : Ground → Bool → Climb → Reached
 restingOf g underflow c = cond underflow (Marked (wantedOf g c)) (OnScale (wantedOf g c))
 
--- the plain climb, over the offsets from `from` to the steps and one more; the order at an offset is that of the fraction, less 1, plus the offset
+-- the plain climb (DO 230), over the offsets from `from` to the steps and one more; the order at an offset is that of the fraction, less 1, plus
+-- the offset
 unfoldable pub climbedOf : Ground → ℕ → Climb → Reached
 climbedOf g from c = OnScale (wantedOf g (climbFrom (g .«two_over_z») (g .fraction ⊖ one) from (stepsOf g + 2 - from) c))
 
@@ -38,7 +41,9 @@ resumedOf g (recovered.Refused refusal) = Refused refusal
 -- out of underflow first, where it is marked
 unfoldable pub begunOf : Ground → Bool → Climb → Recovered
 begunOf g underflow c =
-    cond underflow (recoverOf (g .fraction) (g .«two_over_z») (g .z) (stepsOf g) (c .older) (c .newer)) (recovered.Neighbours (record { climb = c; «next_offset» = 2 }))
+    cond underflow
+    (recoverOf (g .fraction) (g .«two_over_z») (g .z) (stepsOf g) (c .older) (c .newer))
+    (recovered.Neighbours (record { climb = c; «next_offset» = 2 }))
 
 unfoldable pub reachOf : Ground → Bool → Climb → Reached
 reachOf g underflow c = cond (eqb (stepsOf g) 0) (restingOf g underflow c) (resumedOf g (begunOf g underflow c))

@@ -9,12 +9,12 @@ ghost use lib.ListN.{length};
 ghost use Rattle.laws.proofs.Relative.{nonnegative};
 ghost use Rattle.complex.specs.Functions.{modulusOf};
 ghost use Rattle.right_half_plane.specs.Ground.{largestOrder, Sized};
-ghost use Rattle.right_half_plane.specs.Kernel.{LeadFits, restRungs, restCells, leadCells, leadKernel, pairKernel, finishedKernel, kernelOf, afterwards};
+ghost use Rattle.right_half_plane.specs.Kernel.{LeadFits, restOf, leadCells, leadKernel, pairKernel, finishedKernel, kernelOf, afterwards};
 use crate::ground::Ground;
 use crate::ground::prepare;
 use crate::lead::Lead;
 use crate::lead::first_lead;
-use crate::lead::scaled_lead;
+use crate::lead::on_scale_lead;
 use crate::reach::Reached;
 use crate::reach::reach;
 use crate::seeds::Seeded;
@@ -34,7 +34,7 @@ pub struct Counts {
     pub backward: u32,
 }
 
-pub enum Outcome {
+pub enum Ending {
     Answered(Counts),
     Refused(Refusal),
 }
@@ -42,7 +42,8 @@ pub enum Outcome {
 // The cells after the zeros: two entries, where there is room, and the entries of the climb in what remains.
 fn rest(g: Ground, lead: Lead, part: &mut [f64]) -> u32
     requires { ⌜ (length (now part) % 2 ≡ 0) × (length (now part) ≤ 1024) × LeadFits g lead ⌝ }
-    ensures { λ r. ⌜ (r ≡ restRungs g lead (length (now (part .entry)) / 2)) × (now (part .exit) ≡ restCells g lead (length (now (part .entry)) / 2)) ⌝ }
+    ensures { λ r. ⌜ (r ≡ restOf g lead (length (now (part .entry)) / 2) .rungs)
+        × (now (part .exit) ≡ restOf g lead (length (now (part .entry)) / 2) .cells) ⌝ }
 {
     let first = lead.first;
     let second = lead.second;
@@ -64,19 +65,19 @@ fn rest(g: Ground, lead: Lead, part: &mut [f64]) -> u32
 
 fn deliver(g: Ground, lead: Lead, out: &mut [f64]) -> u32
     requires { ⌜ Sized g × LeadFits g lead × (length (now out) ≡ g .count * 2) ⌝ }
-    ensures { λ r. ⌜ (r ≡ restRungs g lead (g .count - lead .zeros)) × (now (out .exit) ≡ leadCells g lead) ⌝ }
+    ensures { λ r. ⌜ (r ≡ restOf g lead (g .count - lead .zeros) .rungs) × (now (out .exit) ≡ leadCells g lead) ⌝ }
 {
     let at = (lead.zeros as usize) * 2;
     fill::fill(&mut out[0..at], 0.0);
     rest(g, lead, &mut out[at..])
 }
 
-fn answered(g: Ground, s: Seeded, lead: Lead, out: &mut [f64]) -> Outcome
+fn answered(g: Ground, s: Seeded, lead: Lead, out: &mut [f64]) -> Ending
     requires { ⌜ Sized g × LeadFits g lead × (length (now out) ≡ g .count * 2) ⌝ }
-    ensures { λ r. ⌜ (r ≡ leadKernel g s lead .outcome) × (now (out .exit) ≡ leadKernel g s lead .cells) ⌝ }
+    ensures { λ r. ⌜ (r ≡ leadKernel g s lead .ending) × (now (out .exit) ≡ leadKernel g s lead .cells) ⌝ }
 {
     let rungs = deliver(g, lead, out);
-    Outcome::Answered(Counts {
+    Ending::Answered(Counts {
         zeros: lead.zeros,
         longest_sum: s.terms,
         rungs,
@@ -84,9 +85,10 @@ fn answered(g: Ground, s: Seeded, lead: Lead, out: &mut [f64]) -> Outcome
     })
 }
 
-fn from_pair(g: Ground, s: Seeded, first: Complex, second: Complex, out: &mut [f64]) -> Outcome
+fn from_pair(g: Ground, s: Seeded, first: Complex, second: Complex, out: &mut [f64]) -> Ending
     requires { ⌜ Sized g × (length (now out) ≡ g .count * 2) ⌝ }
-    ensures { λ r. ⌜ (r ≡ pairKernel g s first second .outcome) × (now (out .exit) ≡ afterwards (pairKernel g s first second) (now (out .entry))) ⌝ }
+    ensures { λ r. ⌜ (r ≡ pairKernel g s first second .ending)
+        × (now (out .exit) ≡ afterwards (pairKernel g s first second) (now (out .entry))) ⌝ }
 {
     let state = s.state;
     let start = Climb {
@@ -97,19 +99,19 @@ fn from_pair(g: Ground, s: Seeded, first: Complex, second: Complex, out: &mut [f
     };
     let reached = reach(g, s.underflow, start);
     match reached {
-        Reached::OnScale(c) => answered(g, s, scaled_lead(c), out),
+        Reached::OnScale(c) => answered(g, s, on_scale_lead(c), out),
         Reached::Marked(c) => answered(g, s, first_lead(g, c), out),
-        Reached::Refused(refusal) => Outcome::Refused(refusal),
+        Reached::Refused(refusal) => Ending::Refused(refusal),
     }
 }
 
-fn finished(s: Seeded, value: Complex, out: &mut [f64]) -> Outcome
+fn finished(s: Seeded, value: Complex, out: &mut [f64]) -> Ending
     requires { ⌜ length (now out) ≡ 2 ⌝ }
-    ensures { λ r. ⌜ (r ≡ finishedKernel s value .outcome) × (now (out .exit) ≡ finishedKernel s value .cells) ⌝ }
+    ensures { λ r. ⌜ (r ≡ finishedKernel s value .ending) × (now (out .exit) ≡ finishedKernel s value .cells) ⌝ }
 {
     out[0] = value.re;
     out[1] = value.im;
-    Outcome::Answered(Counts {
+    Ending::Answered(Counts {
         zeros: 0,
         longest_sum: s.terms,
         rungs: 0,
@@ -123,9 +125,15 @@ pub fn k_right_half_plane(
     z: Complex,
     modulus: f64,
     out: &mut [f64],
-) -> Outcome
-    requires { ⌜ (0 < length (now out)) × (length (now out) % 2 ≡ 0) × (length (now out) ≤ 1024) × T (nonnegative order) × T (le order largestOrder) × (modulus ≡ modulusOf z) ⌝ }
-    ensures { λ r. ⌜ (r ≡ kernelOf scaled order z modulus (length (now (out .entry)) / 2) .outcome) × (now (out .exit) ≡ afterwards (kernelOf scaled order z modulus (length (now (out .entry)) / 2)) (now (out .entry))) ⌝ }
+) -> Ending
+    requires { ⌜ (0 < length (now out))
+        × (length (now out) % 2 ≡ 0)
+        × (length (now out) ≤ 1024)
+        × T (nonnegative order)
+        × T (le order largestOrder)
+        × (modulus ≡ modulusOf z) ⌝ }
+    ensures { λ r. ⌜ (r ≡ kernelOf scaled order z modulus (length (now (out .entry)) / 2) .ending)
+        × (now (out .exit) ≡ afterwards (kernelOf scaled order z modulus (length (now (out .entry)) / 2)) (now (out .entry))) ⌝ }
 {
     let g = prepare(order, z, modulus, (out.len() / 2) as u32);
     let s = seed(g, scaled);
@@ -133,6 +141,6 @@ pub fn k_right_half_plane(
     match seeds {
         Seeds::Finished(value) => finished(s, value, out),
         Seeds::Pair(first, second) => from_pair(g, s, first, second, out),
-        Seeds::Refused(refusal) => Outcome::Refused(refusal),
+        Seeds::Refused(refusal) => Ending::Refused(refusal),
     }
 }

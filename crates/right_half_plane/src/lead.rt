@@ -1,13 +1,13 @@
 // The zeros before the first order on scale, the first two entries after them, and the climb that goes on from there.
-// From src/amos/right_half_plane.rs, k_right_half_plane (ZBKNU). Promised: scaledLead and firstLead of specs/Lead.antt.
+// From src/amos/right_half_plane.rs, k_right_half_plane (ZBKNU). Promised: onScaleLead and firstLead of specs/Lead.antt.
 ghost use mathlib.Core.Path.{_≡_};
 ghost use Prim.Native.Nat.{_≤_};
 ghost use Rattle.right_half_plane.specs.Ground.{Sized};
-ghost use Rattle.right_half_plane.specs.Lead.{scaledLead, firstLead};
+ghost use Rattle.right_half_plane.specs.Lead.{onScaleLead, firstLead};
 use crate::ground::Ground;
 use complex::number::Complex;
 use machine::constants::Machine;
-use recurrence::first::scale_k_recurrence;
+use recurrence::first::first_orders;
 use recurrence::state::Climb;
 use recurrence::state::OverflowState;
 use recurrence::state::reciprocal;
@@ -20,8 +20,8 @@ pub struct Lead {
 }
 
 // on scale: no zeros, and the two values off the scale
-pub fn scaled_lead(c: Climb) -> Lead
-    ensures { λ r. ⌜ r ≡ scaledLead c ⌝ }
+pub fn on_scale_lead(c: Climb) -> Lead
+    ensures { λ r. ⌜ r ≡ onScaleLead c ⌝ }
 {
     let older = c.older;
     let newer = c.newer;
@@ -42,7 +42,7 @@ pub fn first_lead(g: Ground, c: Climb) -> Lead
 {
     let z = g.z;
     let two_over_z = g.two_over_z;
-    let s = scale_k_recurrence(z, g.order, g.count, c.older, c.newer, two_over_z);
+    let s = first_orders(z, g.order, g.count, c.older, c.newer, two_over_z);
     let older = s.first;
     let newer = s.second;
     Lead {

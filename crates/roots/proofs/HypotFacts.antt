@@ -19,9 +19,10 @@ use Rattle.roots.specs.Close.{squaresOver, squaresUnder, NormalValue, Sq
 use Rattle.roots.proofs.Mixed.{round-mixed, mixed-normal}
 use Rattle.roots.proofs.HypotCases.{sum-parts, within-range, full-within, full-above, full-below}
 use Rattle.roots.proofs.HypotSum.{Summed, summed, square-round}
-use Rattle.roots.proofs.HypotRange.{within-floor, above-floor, below-ceiling}
-use Rattle.roots.proofs.HypotParts.{least-value, parts-finite, up-part, down-part, larger-value, smaller-value}
-use Rattle.roots.proofs.HypotRoot.{from-squares, root-close}
+use Rattle.roots.proofs.HypotRange.{within-floor}
+use Rattle.roots.proofs.HypotParts.{larger-value, smaller-value}
+use Rattle.roots.proofs.HypotRoot.{root-close}
+use Rattle.roots.proofs.HypotScaled.{squareBy, over-down, under-down, scaled-up, scaled-down}
 
 -- r * r is within one part in 2 ^ 40 of x * x + y * y, as a ratio
 abbrev Near40 : Float → Float → Float → Type 0
@@ -77,12 +78,6 @@ within x y l u =
 over-up : (n d m e K : ℕ) → n * K * (n * K) * (e * e) + m * K * (m * K) * (d * d) ≡ (n * n * (e * e) + m * m * (d * d)) * (K * K)
 over-up n d m e K = simp (add-mul, mul-assoc, mul-comm, mul-left-comm)
 
-over-down : (n d m e K : ℕ) → n * n * (e * K * (e * K)) + m * m * (d * K * (d * K)) ≡ (n * n * (e * e) + m * m * (d * d)) * (K * K)
-over-down n d m e K = simp (add-mul, mul-assoc, mul-comm, mul-left-comm)
-
-under-down : (d e K : ℕ) → d * K * (d * K) * (e * K * (e * K)) ≡ d * d * (e * e) * (K * K * (K * K))
-under-down d e K = simp (mul-assoc, mul-comm, mul-left-comm)
-
 match-up : (X P Q K : ℕ) → P ≡ X * (K * K) → X * (Q * (K * K)) ≡ P * (1 * 1) * Q
 match-up X P Q K e = sym (ap (λ (t : ℕ). t * Q) (mul-one P ∙ e) ∙ mul-assoc X (K * K) Q ∙ ap (λ (t : ℕ). X * t) (mul-comm (K * K) Q))
 
@@ -95,74 +90,30 @@ scaled-is : (κ β x y : Float) → scaledHypot κ β x y ≡ mul binary64 (root
 unfolding scaledHypot sumOfSquares
 scaled-is κ β x y = refl
 
--- the squares of the parts themselves, rounded
-summed-is : (x y : Float) → T (finite x) → T (finite y) → sumOfSquares x y ≡ add binary64 (round binary64 false (num x * num x) (den x * den x)) (round binary64 false (num y * num y) (den y * den y))
-unfolding sumOfSquares
-summed-is x y f g =
-    ap (λ (z : Float). add binary64 z (mul binary64 y y)) (square-round x (sign x) (num x) (den x) (den-pos x) (own-fraction x f))
-    ∙ ap (λ (z : Float). add binary64 (round binary64 false (num x * num x) (den x * den x)) z) (square-round y (sign y) (num y) (den y) (den-pos y) (own-fraction y g))
-
 module _ (x y : Float) (Fx : T (fits binary64 x)) (Fy : T (fits binary64 y)) (fx : T (finite x)) (fy : T (finite y)) where
-  Cx : 0 < den x * den x
-  Cx = mul-pos (den-pos x) (den-pos x)
-
-  Cy : 0 < den y * den y
-  Cy = mul-pos (den-pos y) (den-pos y)
-
-  -- from a * 2 ^ 798 ≤ c to the parts
-  thin : (n d : ℕ) → n * n * 2 ^ 798 ≤ d * d → n * 2 ^ 399 ≤ d
-  thin n d h = from-squares (n * 2 ^ 399) d (le-trans (le-of-eq (mul-mul-mul-comm n (2 ^ 399) n (2 ^ 399))) h)
-
   below-range : 0 < num x → le leastSum (sumOfSquares x y) ≡ false → NormalValue (scaledHypot larger smaller x y) → Near40 (scaledHypot larger smaller x y) x y
   below-range px h =
       let K = 2 ^ 600 in
-      let c = below-ceiling (num x * num x) (den x * den x) (num y * num y) (den y * den y) Cx Cy (ap (λ (z : Float). le leastSum z) (sym (summed-is x y fx fy)) ∙ h) in
-      let p = up-part x Fx fx (thin (num x) (den x) (c .0)) in
-      let q = up-part y Fy fy (thin (num y) (den y) (c .1)) in
-      let A = mul binary64 (mul binary64 x larger) (mul binary64 x larger) in
-      let B = mul binary64 (mul binary64 y larger) (mul binary64 y larger) in
-      let a = num x * K * (num x * K) in
-      let b = num y * K * (num y * K) in
-      let l = least-value x Fx px in
-      let m : den x * den x ≤ a * 2 ^ 1000 =
-      le-trans (mul-le-mul l l)
-      (le-trans (le-of-eq (mul-mul-mul-comm (num x) (2 ^ 1074) (num x) (2 ^ 1074)))
-      (le-trans (mul-le-mul-left (num x * num x) (lit≤ {m = 2 ^ 1074 * 2 ^ 1074} {n = 2 ^ 600 * 2 ^ 600 * 2 ^ 1000} tt))
-      (le-of-eq (sym (mul-assoc (num x * num x) (2 ^ 600 * 2 ^ 600) (2 ^ 1000)) ∙ ap (λ (t : ℕ). t * 2 ^ 1000) (sym (mul-mul-mul-comm (num x) (2 ^ 600) (num x) (2 ^ 600))))))) in
-      let g : den x * den x * (den y * den y) ≤ (a * (den y * den y) + b * (den x * den x)) * 2 ^ 1000 =
-      le-trans (mul-le-mul-right (den y * den y) m) (le-trans (le-of-eq (mul-right-comm a (2 ^ 1000) (den y * den y))) (mul-le-mul-right (2 ^ 1000) (le-add-right (a * (den y * den y)) (b * (den x * den x))))) in
-      let s = summed A B a (den x * den x) b (den y * den y) (p .bare) (q .bare) (p .mixed) (q .mixed) Cx Cy g (parts-finite A B a (den x * den x) b (den y * den y) p q) in
-      let r = rooted (add binary64 A B) (a * (den y * den y) + b * (den x * den x)) (den x * den x * (den y * den y)) (add-fits binary64 A B) s in
-      let e = match-up (squaresOver x y) (a * (den y * den y) + b * (den x * den x)) (squaresUnder x y) K (over-up (num x) (den x) (num y) (den y) K) in
+      let s = scaled-up x y Fx Fy fx fy px h in
+      let S = add binary64 (squareBy larger x) (squareBy larger y) in
+      let P = num x * K * (num x * K) * (den y * den y) + num y * K * (num y * K) * (den x * den x) in
+      let r = rooted S P (squaresUnder x y) (add-fits binary64 (squareBy larger x) (squareBy larger y)) (s .sum) in
+      let e = match-up (squaresOver x y) P (squaresUnder x y) K (over-up (num x) (den x) (num y) (den y) K) in
       subst (λ (z : Float). NormalValue z → Near40 z x y) (sym (scaled-is larger smaller x y))
-      (λ n. back (rootAt (toBits binary64 (add binary64 A B))) smaller 1 K (a * (den y * den y) + b * (den x * den x)) (den x * den x * (den y * den y)) (squaresOver x y) (squaresUnder x y) (pow-pos 600) (mul-pos Cx Cy) (r .0) smaller-value n (r .1) e)
+      (λ n. back (rootAt (toBits binary64 S)) smaller 1 K P (squaresUnder x y) (squaresOver x y) (squaresUnder x y) (pow-pos 600) (s .over) (r .0) smaller-value n (r .1) e)
 
   above-range : le (sumOfSquares x y) greatestSum ≡ false → NormalValue (scaledHypot smaller larger x y) → Near40 (scaledHypot smaller larger x y) x y
   above-range h =
       let K = 2 ^ 600 in
-      let p = down-part x Fx fx in
-      let q = down-part y Fy fy in
-      let A = mul binary64 (mul binary64 x smaller) (mul binary64 x smaller) in
-      let B = mul binary64 (mul binary64 y smaller) (mul binary64 y smaller) in
-      let a = num x * num x in
-      let b = num y * num y in
+      let s = scaled-down x y Fx Fy fx fy h in
+      let S = add binary64 (squareBy smaller x) (squareBy smaller y) in
       let c = den x * K * (den x * K) in
       let d = den y * K * (den y * K) in
-      let C : 0 < c = mul-pos (mul-pos (den-pos x) (pow-pos 600)) (mul-pos (den-pos x) (pow-pos 600)) in
-      let D : 0 < d = mul-pos (mul-pos (den-pos y) (pow-pos 600)) (mul-pos (den-pos y) (pow-pos 600)) in
-      let u : c * d ≡ squaresUnder x y * (K * K * (K * K)) = under-down (den x) (den y) K in
-      let o : a * d + b * c ≡ squaresOver x y * (K * K) = over-down (num x) (den x) (num y) (den y) K in
-      let f : squaresUnder x y * 2 ^ 998 ≤ squaresOver x y = above-floor a (den x * den x) b (den y * den y) Cx Cy (ap (λ (z : Float). le z greatestSum) (sym (summed-is x y fx fy)) ∙ h) in
-      let g : c * d ≤ (a * d + b * c) * 2 ^ 1000 =
-      le-trans (le-of-eq u)
-      (le-trans (mul-le-mul-left (squaresUnder x y) (lit≤ {m = K * K * (K * K)} {n = 2 ^ 998 * (K * K * 2 ^ 1000)} tt))
-      (le-trans (le-of-eq (sym (mul-assoc (squaresUnder x y) (2 ^ 998) (K * K * 2 ^ 1000))))
-      (le-trans (mul-le-mul-right (K * K * 2 ^ 1000) f) (le-of-eq (sym (mul-assoc (squaresOver x y) (K * K) (2 ^ 1000)) ∙ ap (λ (t : ℕ). t * 2 ^ 1000) (sym o)))))) in
-      let s = summed A B a c b d (p .bare) (q .bare) (p .mixed) (q .mixed) C D g (parts-finite A B a c b d p q) in
-      let r = rooted (add binary64 A B) (a * d + b * c) (c * d) (add-fits binary64 A B) s in
-      let e = match-down (squaresOver x y) (a * d + b * c) (c * d) (squaresUnder x y) K o u in
+      let P = num x * num x * d + num y * num y * c in
+      let r = rooted S P (c * d) (add-fits binary64 (squareBy smaller x) (squareBy smaller y)) (s .sum) in
+      let e = match-down (squaresOver x y) P (c * d) (squaresUnder x y) K (over-down (num x) (den x) (num y) (den y) K) (under-down (den x) (den y) K) in
       subst (λ (z : Float). NormalValue z → Near40 z x y) (sym (scaled-is smaller larger x y))
-      (λ n. back (rootAt (toBits binary64 (add binary64 A B))) larger K 1 (a * d + b * c) (c * d) (squaresOver x y) (squaresUnder x y) (pow-pos 0) (mul-pos C D) (r .0) larger-value n (r .1) e)
+      (λ n. back (rootAt (toBits binary64 S)) larger K 1 P (c * d) (squaresOver x y) (squaresUnder x y) (pow-pos 0) (s .over) (r .0) larger-value n (r .1) e)
 
   -- two parts that are not zero
   full-range : 0 < num x → NormalValue (fullHypot x y) → Near40 (fullHypot x y) x y

@@ -17,5 +17,6 @@ pub mod HypotRoot
 pub mod HypotSum
 pub mod HypotRange
 pub mod HypotParts
+pub mod HypotScaled
 pub mod HypotFacts
 pub mod HypotValues

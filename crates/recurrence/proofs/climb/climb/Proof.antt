@@ -1,8 +1,9 @@
 -- `recurrence::climb::climb` meets its contract: part after part, up to the whole. Assumes nothing.
 use mathlib.Core.Path.{_≡_}
 use Prim.Native.Nat.{_+_, _-_, _≤_, _<_}
+use native.Mathlib.Nat.{le-refl}
 use native.Mathlib.Omega.{arith}
-use Rattle.recurrence.specs.Stretch.{Partway}
+use Rattle.recurrence.specs.shapes.Stretch.{Partway}
 use Rattle.recurrence.proofs.StretchFacts.{partway-start, partway-again, partway-whole}
 use Rattle.recurrence.proofs.climb.climb.Statement.{statement}
 use Rattle.recurrence.proofs.climb.climb.Tie as tie
@@ -38,7 +39,7 @@ loop-again c =
     let l = o .before .before in
     let m = o .onward .ensures .0 .counted in
     let n = o .onward .ensures .0 .inside in
-    (omega arith, omega arith, omega arith, partway-again _ _ (l .loop .i) (l .loop .inv .0) (l .loop .inv .3) (o .onward .ensures .0))
+    (omega arith, omega arith, omega arith, partway-again _ _ (l .loop .i) (l .loop .inv .0) (le-refl _) (l .loop .inv .3) (o .onward .ensures .0))
 
 returns : tie.Need-returns Inv-loop μ-loop
 returns c = partway-whole _ _ (omega arith) (c .before .loop .inv .3)

@@ -5,7 +5,7 @@ use Prim.Native.Nat.{ℕ, _+_, _-_, _≤_, _<_}
 use native.Mathlib.Omega.{arith}
 use lib.Dec.{T}
 use lib.Ieee.{Float, binary64, ofBits, lt}
-use Rattle.recurrence.specs.Stretch.{Partway}
+use Rattle.recurrence.specs.shapes.Stretch.{Partway}
 use Rattle.recurrence.proofs.LimitFacts.{limit-positive}
 use Rattle.recurrence.proofs.StretchFacts.{Standing, standing-start, standing-held}
 use Rattle.recurrence.proofs.climb.stretch.Statement.{statement}
@@ -51,8 +51,8 @@ add-factor-re c =
 factor-re-requires-2 : tie.Need-factor-re-requires-2 Inv-loop μ-loop
 factor-re-requires-2 c κs = search needs
 
-held-requires : tie.Need-held-requires Inv-loop μ-loop
-held-requires c κs = (subst (λ (b : Float). T (lt (ofBits binary64 0) b)) (sym (c .before .before .before .before .before .before .before .limit .ensures)) (limit-positive _), c .before .before .factor-re .ensures)
+next-held-requires : tie.Need-next-held-requires Inv-loop μ-loop
+next-held-requires c κs = (subst (λ (b : Float). T (lt (ofBits binary64 0) b)) (sym (c .before .before .before .before .before .before .before .limit .ensures)) (limit-positive _), c .before .before .factor-re .ensures)
 
 reached-requires-2 : tie.Need-reached-requires-2 Inv-loop μ-loop
 reached-requires-2 c κs = search needs
@@ -72,8 +72,8 @@ add-factor-re-2 c =
 factor-re-requires-3 : tie.Need-factor-re-requires-3 Inv-loop μ-loop
 factor-re-requires-3 c κs = search needs
 
-add-held : tie.Need-add-held Inv-loop μ-loop
-add-held c =
+add-next-held : tie.Need-add-next-held Inv-loop μ-loop
+add-next-held c =
     let e = c .before .before .before .before .before .before in
     let l = e .before .before .before in
     let t = e .if1 .left in
@@ -81,8 +81,8 @@ add-held c =
     let v = l .loop .inv in
     omega arith
 
-held-requires-2 : tie.Need-held-requires-2 Inv-loop μ-loop
-held-requires-2 c κs = (subst (λ (b : Float). T (lt (ofBits binary64 0) b)) (sym (c .before .before .before .before .before .before .before .before .before .before .before .before .limit .ensures)) (limit-positive _), c .before .before .before .before .before .factor-re2 .ensures)
+next-held-requires-2 : tie.Need-next-held-requires-2 Inv-loop μ-loop
+next-held-requires-2 c κs = (subst (λ (b : Float). T (lt (ofBits binary64 0) b)) (sym (c .before .before .before .before .before .before .before .before .before .before .before .before .limit .ensures)) (limit-positive _), c .before .before .before .before .before .factor-re2 .ensures)
 
 add-reached : tie.Need-add-reached Inv-loop μ-loop
 add-reached c =
@@ -105,11 +105,11 @@ returns-3 c =
     let t = e .if1 .left in
     let v = l .loop .inv in
     let m = l .before .before .before .limit .ensures in
-    let one = standing-held _ _ (l .loop .i + 1) (l .loop .rungs + 1) (h .held .result) refl refl (omega arith) m (h .held .ensures) (f .if2 .left) (v .3) in
+    let one = standing-held _ _ (l .loop .i + 1) (l .loop .rungs + 1) (h .next-held .result) refl refl (omega arith) m (h .next-held .ensures) (f .if2 .left) (v .3) in
     subst (Partway _ _ _ _ _) (sym (c .reached3 .ensures)) (one .part)
 
-add-held-2 : tie.Need-add-held-2 Inv-loop μ-loop
-add-held-2 c =
+add-next-held-2 : tie.Need-add-next-held-2 Inv-loop μ-loop
+add-next-held-2 c =
     let e = c .before .before .before .before .before .before .before .before .before .before in
     let l = e .before .before .before in
     let t = e .if1 .left in
@@ -117,8 +117,8 @@ add-held-2 c =
     let v = l .loop .inv in
     omega arith
 
-held-requires-3 : tie.Need-held-requires-3 Inv-loop μ-loop
-held-requires-3 c κs = (subst (λ (b : Float). T (lt (ofBits binary64 0) b)) (sym (c .before .before .before .before .before .before .before .before .before .before .before .before .before .before .before .before .limit .ensures)) (limit-positive _), c .before .before .before .before .factor-re3 .ensures)
+next-held-requires-3 : tie.Need-next-held-requires-3 Inv-loop μ-loop
+next-held-requires-3 c κs = (subst (λ (b : Float). T (lt (ofBits binary64 0) b)) (sym (c .before .before .before .before .before .before .before .before .before .before .before .before .before .before .before .before .limit .ensures)) (limit-positive _), c .before .before .before .before .factor-re3 .ensures)
 
 add-reached-2 : tie.Need-add-reached-2 Inv-loop μ-loop
 add-reached-2 c =
@@ -143,8 +143,8 @@ returns-4 c =
     let t = e .if1 .left in
     let v = l .loop .inv in
     let m = l .before .before .before .limit .ensures in
-    let one = standing-held _ _ (l .loop .i + 1) (l .loop .rungs + 1) (h .held .result) refl refl (omega arith) m (h .held .ensures) (f .if2 .left) (v .3) in
-    let two = standing-held _ _ (l .loop .i + 2) (l .loop .rungs + 2) (k .held2 .result) (omega arith) (omega arith) (omega arith) m (k .held2 .ensures) (g .if3 .left) one in
+    let one = standing-held _ _ (l .loop .i + 1) (l .loop .rungs + 1) (h .next-held .result) refl refl (omega arith) m (h .next-held .ensures) (f .if2 .left) (v .3) in
+    let two = standing-held _ _ (l .loop .i + 2) (l .loop .rungs + 2) (k .next-held2 .result) (omega arith) (omega arith) (omega arith) m (k .next-held2 .ensures) (g .if3 .left) one in
     subst (Partway _ _ _ _ _) (sym (c .reached4 .ensures)) (two .part)
 
 add-rungs : tie.Need-add-rungs Inv-loop μ-loop
@@ -186,9 +186,9 @@ loop-again c =
     let t = e .if1 .left in
     let v = l .loop .inv in
     let m = l .before .before .before .limit .ensures in
-    let one = standing-held _ _ (l .loop .i + 1) (l .loop .rungs + 1) (h .held .result) refl refl (omega arith) m (h .held .ensures) (f .if2 .left) (v .3) in
-    let two = standing-held _ _ (l .loop .i + 2) (l .loop .rungs + 2) (k .held2 .result) (omega arith) (omega arith) (omega arith) m (k .held2 .ensures) (g .if3 .left) one in
-    let three = standing-held _ _ (l .loop .i + 3) (l .loop .rungs + 3) (n .held3 .result) (omega arith) (omega arith) (omega arith) m (n .held3 .ensures) (c .if4 .left) two in
+    let one = standing-held _ _ (l .loop .i + 1) (l .loop .rungs + 1) (h .next-held .result) refl refl (omega arith) m (h .next-held .ensures) (f .if2 .left) (v .3) in
+    let two = standing-held _ _ (l .loop .i + 2) (l .loop .rungs + 2) (k .next-held2 .result) (omega arith) (omega arith) (omega arith) m (k .next-held2 .ensures) (g .if3 .left) one in
+    let three = standing-held _ _ (l .loop .i + 3) (l .loop .rungs + 3) (n .next-held3 .result) (omega arith) (omega arith) (omega arith) m (n .next-held3 .ensures) (c .if4 .left) two in
     (omega arith, omega arith, omega arith, three)
 
 reached-requires-5 : tie.Need-reached-requires-5 Inv-loop μ-loop
@@ -211,18 +211,18 @@ stretch-spec =
     returns
     add-factor-re
     factor-re-requires-2
-    held-requires
+    next-held-requires
     reached-requires-2
     returns-2
     add-factor-re-2
     factor-re-requires-3
-    add-held
-    held-requires-2
+    add-next-held
+    next-held-requires-2
     add-reached
     reached-requires-3
     returns-3
-    add-held-2
-    held-requires-3
+    add-next-held-2
+    next-held-requires-3
     add-reached-2
     reached-requires-4
     returns-4

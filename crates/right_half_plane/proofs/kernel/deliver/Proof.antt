@@ -41,8 +41,12 @@ same-length : tie.Need-same-length
 same-length c = search needs
 
 returns : tie.Need-returns
-returns c = let a = c .before .before .before .before .before .before .before .before .before .before .args in
-    (delivered-rungs (a .g) (a .lead) (a .out .now) _ (c .before .before .before .before .before .before .before .before .before .before .pre .2) (c .before .before .before .before .before .before .before .before .before .before .pre .1 .zeros) (c .before .before .before .before .before .before .fill .ensures) _ (c .before .before .rest .ensures .0), delivered-cells (a .g) (a .lead) (a .out .now) _ (c .before .before .before .before .before .before .before .before .before .before .pre .2) (c .before .before .before .before .before .before .before .before .before .before .pre .1 .zeros) (c .before .before .before .before .before .before .fill .ensures) _ (c .before .before .rest .ensures .1))
+returns c =
+    let f = c .before .before .before .before .before .before in
+    let s = f .before .before .before .before in
+    let a = s .args in
+    let r = c .before .before .rest .ensures in
+    (delivered-rungs (a .g) (a .lead) (a .out .now) _ (s .pre .2) (s .pre .1 .zeros) (f .fill .ensures) _ (r .0), delivered-cells (a .g) (a .lead) (a .out .now) _ (s .pre .2) (s .pre .1 .zeros) (f .fill .ensures) _ (r .1))
 
 pub deliver-spec : {M : Type 1} → statement M
 deliver-spec = tie.close (tie.spec cast-at mul-at sub-fill part-fill-start part-fill-end fill-requires mul-rest sub-rest part-rest-start part-rest-end rest-requires same-length returns)

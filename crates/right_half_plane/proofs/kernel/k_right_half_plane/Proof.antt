@@ -26,8 +26,12 @@ enum-known-seeds c = search needs
 
 finished-requires : tie.Need-finished-requires
 unfolding groundOf
-finished-requires c κs = let n : c .before .before .before .before .before .prepare .result .count ≡ 1 = finished-alone _ _ _ _ (c .before .before .before .before .seed .ensures) (c .before .before .seeds .given .1) in
-    let e = ap (λ (g : Ground). g .count) (c .before .before .before .before .before .prepare .ensures) in
+finished-requires c κs =
+    let m = c .before .before in
+    let d = m .before .before in
+    let p = d .before in
+    let n : p .prepare .result .count ≡ 1 = finished-alone _ _ _ _ (d .seed .ensures) (m .seeds .given .1) in
+    let e = ap (λ (g : Ground). g .count) (p .prepare .ensures) in
     omega arith
 
 enum-known-seeds-2 : tie.Need-enum-known-seeds-2
@@ -35,9 +39,11 @@ enum-known-seeds-2 c = search needs
 
 from-pair-requires : tie.Need-from-pair-requires
 unfolding groundOf
-from-pair-requires c κs = let p = c .before .before .before .before .before .before .before .pre in
-    let e = ap (λ (g : Ground). g .count) (c .before .before .before .before .before .prepare .ensures) in
-    (subst Sized (sym (c .before .before .before .before .before .prepare .ensures)) (ground-sized _ _ _ _ (omega arith) (omega arith) (p .3) (p .4)), omega arith)
+from-pair-requires c κs =
+    let g = c .before .before .before .before .before in
+    let p = g .before .before .pre in
+    let e = ap (λ (g : Ground). g .count) (g .prepare .ensures) in
+    (subst Sized (sym (g .prepare .ensures)) (ground-sized _ _ _ _ (omega arith) (omega arith) (p .3) (p .4)), omega arith)
 
 enum-known-seeds-3 : tie.Need-enum-known-seeds-3
 enum-known-seeds-3 c = search needs
@@ -47,18 +53,28 @@ same-length c = search needs
 
 returns : tie.Need-returns
 unfolding seedsKernel finishedKernel afterwards afterIf
-returns c = rw (kernel-as _ _ _ _ _ (c .before .before .before .before .before .before .before .before .prepare .ensures) (c .before .before .before .before .before .before .before .seed .ensures) (c .before .before .before .before .before .seeds .given .1)) (c .before .before .finished .ensures)
+returns c =
+    let f = c .before .before in
+    let m = f .before .before .before in
+    let d = m .before .before in
+    rw (kernel-as _ _ _ _ _ (d .before .prepare .ensures) (d .seed .ensures) (m .seeds .given .1)) (f .finished .ensures)
 
 same-length-2 : tie.Need-same-length-2
 same-length-2 c = search needs
 
 returns-2 : tie.Need-returns-2
 unfolding seedsKernel
-returns-2 c = rw (kernel-as _ _ _ _ _ (c .before .before .before .before .before .before .before .before .prepare .ensures) (c .before .before .before .before .before .before .before .seed .ensures) (c .before .before .before .before .before .seeds2 .given .1)) (c .before .before .from-pair .ensures)
+returns-2 c =
+    let f = c .before .before in
+    let m = f .before .before .before in
+    let d = m .before .before in
+    rw (kernel-as _ _ _ _ _ (d .before .prepare .ensures) (d .seed .ensures) (m .seeds2 .given .1)) (f .from-pair .ensures)
 
 returns-3 : tie.Need-returns-3
 unfolding seedsKernel refusedKernel afterwards afterIf
-returns-3 c = rw (kernel-as _ _ _ _ _ (c .before .before .before .before .prepare .ensures) (c .before .before .before .seed .ensures) (c .before .seeds3 .given .1)) (refl, refl)
+returns-3 c =
+    let d = c .before .before .before in
+    rw (kernel-as _ _ _ _ _ (d .before .prepare .ensures) (d .seed .ensures) (c .before .seeds3 .given .1)) (refl, refl)
 
 pub k-right-half-plane-spec : {M : Type 1} → statement M
 k-right-half-plane-spec = tie.close (tie.spec cast-prepare prepare-requires seed-requires enum-known-seeds finished-requires enum-known-seeds-2 from-pair-requires enum-known-seeds-3 same-length returns same-length-2 returns-2 returns-3)

@@ -9,7 +9,7 @@ use Rattle.right_half_plane.proofs.kernel.rest.Statement.{statement}
 use Rattle.right_half_plane.proofs.kernel.rest.Tie as tie
 
 returns : tie.Need-returns
-returns c = rest-empty (c .before .before .before .before .before .before .args .g) (c .before .before .before .before .before .before .args .lead) (c .before .before .before .before .before .before .args .part .now) (c .if1 .taken)
+returns c = let a = c .before .before .before .before .before .before .args in rest-empty (a .g) (a .lead) (a .part .now) (c .if1 .taken)
 
 slice-write-part : tie.Need-slice-write-part
 slice-write-part c = search needs
@@ -21,35 +21,85 @@ same-length : tie.Need-same-length
 same-length c = search needs
 
 returns-2 : tie.Need-returns-2
-returns-2 c = rest-one (c .before .before .before .before .before .before .before .args .g) (c .before .before .before .before .before .before .before .args .lead) (c .before .before .before .before .before .before .before .args .part .now) (only (c .before .before .before .before .before .before .before .args .part .now) _ _ (c .if2 .taken))
+returns-2 c = let a = c .before .before .before .before .before .before .before .args in rest-one (a .g) (a .lead) (a .part .now) (only (a .part .now) _ _ (c .if2 .taken))
 
 slice-write-part-3 : tie.Need-slice-write-part-3
-slice-write-part-3 c = let h = many (c .before .before .before .before .before .before .before .args .part .now) (c .before .before .before .before .before .before .before .args .lead .first .re) (c .before .before .before .before .before .before .before .args .lead .first .im) (c .before .before .before .before .before .before .before .pre .0) (c .before .if1 .left) (c .if2 .left) in simp length-set (omega arith)
+slice-write-part-3 c =
+    let s = c .before .before .before .before .before .before .before in
+    let a = s .args in
+    let h = many (a .part .now) (a .lead .first .re) (a .lead .first .im) (s .pre .0) (c .before .if1 .left) (c .if2 .left) in
+    simp length-set (omega arith)
 
 slice-write-part-4 : tie.Need-slice-write-part-4
-slice-write-part-4 c = let h = many (c .before .before .before .before .before .before .before .args .part .now) (c .before .before .before .before .before .before .before .args .lead .first .re) (c .before .before .before .before .before .before .before .args .lead .first .im) (c .before .before .before .before .before .before .before .pre .0) (c .before .if1 .left) (c .if2 .left) in simp length-set (omega arith)
+slice-write-part-4 c =
+    let s = c .before .before .before .before .before .before .before in
+    let a = s .args in
+    let h = many (a .part .now) (a .lead .first .re) (a .lead .first .im) (s .pre .0) (c .before .if1 .left) (c .if2 .left) in
+    simp length-set (omega arith)
 
 add-fill : tie.Need-add-fill
 add-fill c = search needs
 
 sub-fill : tie.Need-sub-fill
-sub-fill c = let h = many (c .before .before .before .before .before .before .before .before .before .args .part .now) (c .before .before .before .before .before .before .before .before .before .args .lead .first .re) (c .before .before .before .before .before .before .before .before .before .args .lead .first .im) (c .before .before .before .before .before .before .before .before .before .pre .0) (c .before .before .before .if1 .left) (c .before .before .if2 .left) in stored-many (c .before .before .before .before .before .before .before .before .before .args .g) (c .before .before .before .before .before .before .before .before .before .args .lead) (c .before .before .before .before .before .before .before .before .before .args .part .now) h
+sub-fill c =
+    let t = c .before .before in
+    let s = t .before .before .before .before .before .before .before in
+    let a = s .args in
+    stored-many (a .g) (a .lead) (a .part .now) (many (a .part .now) (a .lead .first .re) (a .lead .first .im) (s .pre .0) (t .before .if1 .left) (t .if2 .left))
 
 part-fill-start : tie.Need-part-fill-start
-part-fill-start c = let h = many (c .before .before .before .before .before .before .before .before .before .args .part .now) (c .before .before .before .before .before .before .before .before .before .args .lead .first .re) (c .before .before .before .before .before .before .before .before .before .args .lead .first .im) (c .before .before .before .before .before .before .before .before .before .pre .0) (c .before .before .before .if1 .left) (c .before .before .if2 .left) in stored-many (c .before .before .before .before .before .before .before .before .before .args .g) (c .before .before .before .before .before .before .before .before .before .args .lead) (c .before .before .before .before .before .before .before .before .before .args .part .now) h
+part-fill-start c =
+    let t = c .before .before in
+    let s = t .before .before .before .before .before .before .before in
+    let a = s .args in
+    stored-many (a .g) (a .lead) (a .part .now) (many (a .part .now) (a .lead .first .re) (a .lead .first .im) (s .pre .0) (t .before .if1 .left) (t .if2 .left))
 
 part-fill-end : tie.Need-part-fill-end
 part-fill-end c = search needs
 
 fill-requires : tie.Need-fill-requires
-fill-requires c κs = let h = many (c .before .before .before .before .before .before .before .before .before .before .args .part .now) (c .before .before .before .before .before .before .before .before .before .before .args .lead .first .re) (c .before .before .before .before .before .before .before .before .before .before .args .lead .first .im) (c .before .before .before .before .before .before .before .before .before .before .pre .0) (c .before .before .before .before .if1 .left) (c .before .before .before .if2 .left) in let l = left-over (c .before .before .before .before .before .before .before .before .before .before .args .g) (c .before .before .before .before .before .before .before .before .before .before .args .lead) (c .before .before .before .before .before .before .before .before .before .before .args .part .now) in (omega arith, omega arith, omega arith)
+fill-requires c κs =
+    let t = c .before .before .before in
+    let s = t .before .before .before .before .before .before .before in
+    let a = s .args in
+    let h = many (a .part .now) (a .lead .first .re) (a .lead .first .im) (s .pre .0) (t .before .if1 .left) (t .if2 .left) in
+    let l = left-over (a .g) (a .lead) (a .part .now) in
+    (omega arith, omega arith, omega arith)
 
 same-length-2 : tie.Need-same-length-2
-same-length-2 c = let h = many (c .before .before .before .before .before .before .before .before .before .before .before .before .before .args .part .now) (c .before .before .before .before .before .before .before .before .before .before .before .before .before .args .lead .first .re) (c .before .before .before .before .before .before .before .before .before .before .before .before .before .args .lead .first .im) (c .before .before .before .before .before .before .before .before .before .before .before .before .before .pre .0) (c .before .before .before .before .before .before .before .if1 .left) (c .before .before .before .before .before .before .if2 .left) in kept-length (c .before .before .before .before .before .before .before .before .before .before .before .before .before .args .g) (c .before .before .before .before .before .before .before .before .before .before .before .before .before .args .lead) (c .before .before .before .before .before .before .before .before .before .before .before .before .before .args .part .now) _ _ (c .before .before .before .before .before .before .before .before .before .before .before .before .before .pre .0) h (ap (λ (n : ℕ). n / 2) (left-over (c .before .before .before .before .before .before .before .before .before .before .before .before .before .args .g) (c .before .before .before .before .before .before .before .before .before .before .before .before .before .args .lead) (c .before .before .before .before .before .before .before .before .before .before .before .before .before .args .part .now))) (c .before .before .fill .ensures .1)
+same-length-2 c =
+    let f = c .before .before in
+    let t = f .before .before .before .before in
+    let s = t .before .before .before .before .before .before .before in
+    let a = s .args in
+    let h = many (a .part .now) (a .lead .first .re) (a .lead .first .im) (s .pre .0) (t .before .if1 .left) (t .if2 .left) in
+    kept-length (a .g) (a .lead) (a .part .now) _ h (ap (λ (n : ℕ). n / 2) (left-over (a .g) (a .lead) (a .part .now))) _ (s .pre .0) (f .fill .ensures .1)
 
 returns-3 : tie.Need-returns-3
-returns-3 c = let h = many (c .before .before .before .before .before .before .before .before .before .before .before .before .before .args .part .now) (c .before .before .before .before .before .before .before .before .before .before .before .before .before .args .lead .first .re) (c .before .before .before .before .before .before .before .before .before .before .before .before .before .args .lead .first .im) (c .before .before .before .before .before .before .before .before .before .before .before .before .before .pre .0) (c .before .before .before .before .before .before .before .if1 .left) (c .before .before .before .before .before .before .if2 .left) in let k = ap (λ (n : ℕ). n / 2) (left-over (c .before .before .before .before .before .before .before .before .before .before .before .before .before .args .g) (c .before .before .before .before .before .before .before .before .before .before .before .before .before .args .lead) (c .before .before .before .before .before .before .before .before .before .before .before .before .before .args .part .now)) in
-    (rungs-more (c .before .before .before .before .before .before .before .before .before .before .before .before .before .args .g) (c .before .before .before .before .before .before .before .before .before .before .before .before .before .args .lead) (c .before .before .before .before .before .before .before .before .before .before .before .before .before .args .part .now) _ _ h k (c .before .before .fill .ensures .0), rest-more (c .before .before .before .before .before .before .before .before .before .before .before .before .before .args .g) (c .before .before .before .before .before .before .before .before .before .before .before .before .before .args .lead) (c .before .before .before .before .before .before .before .before .before .before .before .before .before .args .part .now) _ _ h k (c .before .before .fill .ensures .1))
+returns-3 c =
+    let f = c .before .before in
+    let t = f .before .before .before .before in
+    let s = t .before .before .before .before .before .before .before in
+    let a = s .args in
+    let h = many (a .part .now) (a .lead .first .re) (a .lead .first .im) (s .pre .0) (t .before .if1 .left) (t .if2 .left) in
+    let k = ap (λ (n : ℕ). n / 2) (left-over (a .g) (a .lead) (a .part .now)) in
+    (rungs-more (a .g) (a .lead) (a .part .now) _ h k _ (f .fill .ensures .0), rest-more (a .g) (a .lead) (a .part .now) _ h k _ (f .fill .ensures .1))
 
 pub rest-spec : {M : Type 1} → statement M
-rest-spec = tie.close (tie.spec returns slice-write-part slice-write-part-2 same-length returns-2 slice-write-part-3 slice-write-part-4 add-fill sub-fill part-fill-start part-fill-end fill-requires same-length-2 returns-3)
+rest-spec =
+    tie.close
+    (tie.spec
+    returns
+    slice-write-part
+    slice-write-part-2
+    same-length
+    returns-2
+    slice-write-part-3
+    slice-write-part-4
+    add-fill
+    sub-fill
+    part-fill-start
+    part-fill-end
+    fill-requires
+    same-length-2
+    returns-3)

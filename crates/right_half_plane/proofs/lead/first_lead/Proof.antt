@@ -3,15 +3,15 @@ use mathlib.Core.Path.{sym, subst}
 use Prim.Native.Nat.{_≤_}
 use native.Mathlib.Omega.{arith}
 use Rattle.machine.specs.Constants.{tolerance}
-use Rattle.recurrence.specs.declared.first.Scaled.{Scaled}
+use Rattle.recurrence.specs.declared.first.FirstOrders.{FirstOrders}
 use Rattle.right_half_plane.specs.Lead.{firstLead}
 use Rattle.right_half_plane.proofs.LeadFacts.{first-few}
 use borrow.Author.Needs.{needs}
 use Rattle.right_half_plane.proofs.lead.first_lead.Statement.{statement}
 use Rattle.right_half_plane.proofs.lead.first_lead.Tie as tie
 
-scale-k-recurrence-requires : tie.Need-scale-k-recurrence-requires
-scale-k-recurrence-requires c κs = search needs
+first-orders-requires : tie.Need-first-orders-requires
+first-orders-requires c κs = search needs
 
 times-real-requires : tie.Need-times-real-requires
 times-real-requires c κs = search needs
@@ -21,12 +21,12 @@ times-real-requires-2 c κs = search needs
 
 add-t11 : tie.Need-add-t11
 add-t11 c = let d = c .before .before .before .before .before .before in
-    let h : d .scale-k-recurrence .result .rungs ≤ 512 = subst (λ (s : Scaled). s .rungs ≤ 512) (sym (d .scale-k-recurrence .ensures)) (first-few _ _ _ _ _ _ (c .before .before .before .before .before .before .before .before .before .pre .0 .few)) in
+    let h : d .first-orders .result .rungs ≤ 512 = subst (λ (s : FirstOrders). s .rungs ≤ 512) (sym (d .first-orders .ensures)) (first-few _ _ _ _ _ _ (c .before .before .before .before .before .before .before .before .before .pre .0 .few)) in
     omega arith
 
 returns : tie.Need-returns
 unfolding firstLead tolerance
-returns c = simp (c .before .before .times-real2 .ensures, c .before .before .before .times-real .ensures, c .before .before .before .before .before .before .scale-k-recurrence .ensures)
+returns c = simp (c .before .before .times-real2 .ensures, c .before .before .before .times-real .ensures, c .before .before .before .before .before .before .first-orders .ensures)
 
 pub first-lead-spec : {M : Type 1} → statement M
-first-lead-spec = tie.close (tie.spec scale-k-recurrence-requires times-real-requires times-real-requires-2 add-t11 returns)
+first-lead-spec = tie.close (tie.spec first-orders-requires times-real-requires times-real-requires-2 add-t11 returns)

@@ -1,28 +1,39 @@
--- `right_half_plane::recover::recover` meets its contract: the offsets, and what was found. Assumes nothing.
-use mathlib.Core.Path.{refl, sym, ap, _∙_, subst}
-use Prim.Native.Nat.{ℕ, _≤_}
+-- `right_half_plane::recover::recover` meets its contract: the search, and what it found. Assumes nothing.
+use mathlib.Core.Path.{sym, ap, subst}
+use Prim.Native.Nat.{_≤_}
 use native.Mathlib.Nat.{le-trans}
-use Rattle.right_half_plane.specs.Recover.{startRecovery, recoverOf}
-use Rattle.right_half_plane.specs.declared.recover.Recovery.{Recovery}
+use native.Mathlib.Omega.{arith}
+use Rattle.recurrence.specs.declared.search.Search.{Search}
+use Rattle.right_half_plane.specs.Recover.{recoverOf}
 use Rattle.right_half_plane.proofs.Counts.{recovery-rungs}
 use borrow.Author.Needs.{needs}
 use Rattle.right_half_plane.proofs.recover.recover.Statement.{statement}
 use Rattle.right_half_plane.proofs.recover.recover.Tie as tie
 
-start-requires : tie.Need-start-requires
-start-requires c κs = search needs
+failed-requires : tie.Need-failed-requires
+failed-requires c κs = search needs
 
-searched-requires : tie.Need-searched-requires
-unfolding startRecovery
-searched-requires c κs = (c .before .pre, ap (λ (s : Recovery). s .rungs) (c .start .ensures))
+failed-requires-2 : tie.Need-failed-requires-2
+failed-requires-2 c κs = search needs
+
+search-at-requires : tie.Need-search-at-requires
+search-at-requires c κs = search needs
+
+search-from-requires : tie.Need-search-from-requires
+search-from-requires c κs = rw (c .search-at .ensures) (omega arith)
 
 settled-requires : tie.Need-settled-requires
-unfolding startRecovery
-settled-requires c κs = subst (λ (s : Recovery). s .rungs ≤ 1000) (sym (c .searched .ensures)) (le-trans (recovery-rungs _ _ _ _ (ap (λ (s : Recovery). s .rungs) (c .before .start .ensures))) (c .before .before .pre))
+settled-requires c κs =
+    let a = c .before in
+    let z = ap (λ (s : Search). s .rungs) (a .search-at .ensures) in
+    subst (λ (s : Search). s .rungs ≤ 1000) (sym (c .search-from .ensures)) (le-trans (recovery-rungs _ _ _ _ z) (a .before .before .before .pre))
 
 returns : tie.Need-returns
 unfolding recoverOf
-returns c = simp (c .settled .ensures, c .before .searched .ensures, c .before .before .start .ensures)
+returns c =
+    let a = c .before .before in
+    let f = a .before in
+    simp (c .settled .ensures, c .before .search-from .ensures, a .search-at .ensures, f .failed2 .ensures, f .before .failed .ensures)
 
 pub recover-spec : {M : Type 1} → statement M
-recover-spec = tie.close (tie.spec start-requires searched-requires settled-requires returns)
+recover-spec = tie.close (tie.spec failed-requires failed-requires-2 search-at-requires search-from-requires settled-requires returns)

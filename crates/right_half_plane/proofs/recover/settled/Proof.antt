@@ -5,19 +5,19 @@ use borrow.Author.Needs.{needs}
 use Rattle.right_half_plane.proofs.recover.settled.Statement.{statement}
 use Rattle.right_half_plane.proofs.recover.settled.Tie as tie
 
-is-recovered-requires : tie.Need-is-recovered-requires
-is-recovered-requires c κs = search needs
+is-found-requires : tie.Need-is-found-requires
+is-found-requires c κs = search needs
 
 neighbours-requires : tie.Need-neighbours-requires
 neighbours-requires c κs = search needs
 
 returns : tie.Need-returns
 unfolding settledOf
-returns c = simp (c .neighbours .ensures, sym (c .before .before .is-recovered .ensures) ∙ c .before .if1 .taken)
+returns c = simp (c .neighbours .ensures, sym (c .before .before .is-found .ensures) ∙ c .before .if1 .taken)
 
 returns-2 : tie.Need-returns-2
 unfolding settledOf
-returns-2 c = simp (sym (c .before .is-recovered .ensures) ∙ c .if1 .left)
+returns-2 c = simp (sym (c .before .is-found .ensures) ∙ c .if1 .left)
 
 pub settled-spec : {M : Type 1} → statement M
-settled-spec = tie.close (tie.spec is-recovered-requires neighbours-requires returns returns-2)
+settled-spec = tie.close (tie.spec is-found-requires neighbours-requires returns returns-2)

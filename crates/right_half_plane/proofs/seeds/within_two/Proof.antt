@@ -2,7 +2,7 @@
 use mathlib.Core.Path.{sym, ap, _∙_, subst}
 use lib.Dec.{T}
 use lib.Ieee.{Float, lt, le}
-use Rattle.right_half_plane.specs.Seeds.{two}
+use Rattle.machine.specs.Small.{two}
 use Rattle.right_half_plane.proofs.WithinTwo.{inner, outer, both-inside, real-outside, imaginary-outside}
 use borrow.Author.Needs.{needs}
 use Rattle.right_half_plane.proofs.seeds.within_two.Statement.{statement}

@@ -7,7 +7,7 @@ way.py --check PAGE        fails where a block of PAGE is not what --write would
 
 A way begins at the frame program. What a frame may meet is every call that stands in a body, but for the arms of a match that belong to the
 other kind, and for the other kind's entry point. A function is counted once and opened where it is met first. It is as deep as the longest
-chain of calls that leads to it, or, in a run, as the deepest one seen; the first function is 1 deep.
+chain of calls that leads to it, or, in a run, as the deepest one seen; the first function is 1 deep. The line begins where it is read.
 
 A block of a page stands between fences behind a mark. <!-- way K FUNCTION.. --> holds what the run of the K frame meets from these functions
 on, each named by the end of its path, enough to tell it; what has a block of its own, or stands above, is named and not opened.
@@ -20,7 +20,9 @@ from functions import House
 from run import calls_of
 from sources import TOP
 
-PROGRAM, LINE = "lichenoar::main", "answer_line"
+PROGRAM = "lichenoar::main"
+# where the line begins: read and answered in one, or, of a frame that stands whole in a piece of the input, read and then answered
+LINE = ["answering::line::answer_line", "frame::asking::parse", "answering::called::answer_asking"]
 ENTRY = {"K": "bessel::k::k", "I": "bessel::i::i"}
 FRAME = {"K": "0100000200000000000000003FF00000000000000000000000000000", "I": "0200000200000000000000003FF00000000000000000000000000000"}
 
@@ -48,14 +50,15 @@ class Way:
                     self.depth[g] = max(self.depth.get(g, 0), self.depth[f] + 1)
 
     def totals(self, line):
-        """From the first function on, and from the line function on."""
-        below = [line]
+        """From the first function on, and from the functions of the line on."""
+        below = [f for f in line if f in self.depth]
+        first = min(self.depth[f] for f in below)
         for f in below:
             below += [g for g in self.calls(f) if g not in below]
         crates = {f.module.crate for f in self.functions}
         return (
             f"{self.title}: {len(self.functions)} functions in {len(crates)} crates, {max(self.depth.values())} deep; "
-            f"from {line.name} on {len(below)}, {max(self.depth[f] for f in below) - self.depth[line] + 1} deep"
+            f"from the line on {len(below)}, {max(self.depth[f] for f in below) - first + 1} deep"
         )
 
     def rows(self, roots, shown, own=frozenset()):
@@ -101,10 +104,7 @@ class Ways:
     def __init__(self, run):
         self.house = house = House()
         self.start = house.at[PROGRAM]
-        lines = [f for f in house.functions if f.name == LINE and not f.owner]
-        if len(lines) != 1:
-            sys.exit(f"way.py: {len(lines)} functions are named {LINE}")
-        self.line = lines[0]
+        self.line = [house.at[path] for path in LINE]
         self.may, self.met = {}, {}
         for kind in ENTRY:
             others = {other: house.at[path] for other, path in ENTRY.items() if other != kind}

@@ -19,7 +19,6 @@ unfolding ofBits add
 one-plus true = refl
 one-plus false = refl
 
-
 sinc-at-zero : (s : Bool) → oneOverSinc (zeroOf s) ≡ one
 unfolding oneOverSinc ofBits eq
 sinc-at-zero true = refl

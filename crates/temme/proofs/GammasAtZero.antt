@@ -8,7 +8,6 @@ use Rattle.gamma_ln.specs.Tables.{wholeValues}
 use Rattle.gamma_ln.specs.GammaLn.{isTabulated, tabulatedOf, gammaLnOf}
 use Rattle.exponential.specs.Exp.{expOf}
 use Rattle.exponential.proofs.ExpFacts.{exp-at-minus-zero}
-use Rattle.complex.specs.Lost.{magnitudeOf}
 use Rattle.temme.specs.declared.gammas.Gammas.{Gammas}
 use Rattle.temme.specs.Difference.{differenceOf}
 use Rattle.temme.specs.Gammas.{oneOverSinc, differenceQuotient, gammasOf}
@@ -54,7 +53,7 @@ unfolding ofBits add mul
 mean-at-zero = refl
 
 quotient-at-zero : (s : Bool) (w : Float) → differenceQuotient (zeroOf s) w one one ≡ differenceOf w
-unfolding differenceQuotient magnitudeOf ofBits neg le lt eq
+unfolding differenceQuotient ofBits le lt eq
 quotient-at-zero true w = refl
 quotient-at-zero false w = refl
 

@@ -16,7 +16,7 @@ use Rattle.call.specs.declared.answer.Answer.{Answer}
 use Rattle.call.specs.Checks.{Check, numbersOf}
 use Rattle.call.proofs.FirstFacts.{Given, FirstDecides, first-decides}
 use Rattle.complex.specs.declared.number.Complex.{Complex}
-use Rattle.complex.specs.Lost.{magnitudeOf}
+use Rattle.machine.specs.Magnitude.{magnitudeOf}
 use Rattle.roots.specs.Sqrt.{NearestRoot, sqrtOf}
 use Rattle.roots.specs.Hypot.{hypotOf}
 use Rattle.roots.specs.Close.{NormalValue, SquareClose}

@@ -13,9 +13,11 @@ use Rattle.laws.proofs.Value.{finite-no-nan}
 use Rattle.laws.proofs.Order.{neg-finite}
 use Rattle.laws.proofs.Sign.{neg-neg, neg-sign, neg-nan, bare-neg}
 use Rattle.laws.proofs.Mag.{Mag, magTest, mag-literal, mag-neg, mag-add, mag-sub}
+use Rattle.machine.specs.Magnitude.{magnitudeOf}
+use Rattle.machine.proofs.MagnitudeFacts.{bare-is}
 use Rattle.angle.proofs.Arc.{ArcSize, arc-size}
-use Rattle.angle.proofs.Sides.{magnitude-is, negative-is, magnitude-fits, magnitude-above, sides-ordered, scaled-ranged}
-use Rattle.angle.specs.Angle.{infinity, grid, negative, magnitude, leading, largerOf, smallerOf, sidesOf, times, flat, even, loweredOf, raisedOf, scaledOf, stepOf, tangentOf, seriesOf, joinedOf, tabledArcOf, arcOf, awayOf, backOf, quarterTurn, halfTurn, turnedOf, upperOf, angleOf}
+use Rattle.angle.proofs.Sides.{negative-is, magnitude-fits, magnitude-above, sides-ordered, scaled-ranged}
+use Rattle.angle.specs.Angle.{infinity, grid, negative, leading, largerOf, smallerOf, sidesOf, times, flat, even, loweredOf, raisedOf, scaledOf, stepOf, tangentOf, seriesOf, joinedOf, tabledArcOf, arcOf, awayOf, backOf, quarterTurn, halfTurn, turnedOf, upperOf, angleOf}
 use Rattle.angle_tables.specs.Tables.{atanHigh, atanLow, tabledOf}
 use Rattle.angle_tables.specs.declared.tables.Sum.{Sum}
 
@@ -52,10 +54,10 @@ pub angle-number-finite : (y x : Float) → T (fits binary64 y) → T (fits bina
 unfolding angleOf upperOf signed
 angle-number-finite y x F G n m =
     rw (is-false (isNan y) n, is-false (isNan x) m)
-    (signed-finite (negative y) (turnedOf (arcOf (scaledOf (sidesOf (magnitude y) (magnitude x)))) (lt (magnitude x) (magnitude y)) (negative x))
-    (turned-size (arcOf (scaledOf (sidesOf (magnitude y) (magnitude x)))) (lt (magnitude x) (magnitude y)) (negative x)
-    (arc-size (scaledOf (sidesOf (magnitude y) (magnitude x)))
-    (scaled-ranged (sidesOf (magnitude y) (magnitude x)) (sides-ordered (magnitude y) (magnitude x) (magnitude-fits y) (magnitude-fits x) (magnitude-above y F n) (magnitude-above x G m))))
+    (signed-finite (negative y) (turnedOf (arcOf (scaledOf (sidesOf (magnitudeOf y) (magnitudeOf x)))) (lt (magnitudeOf x) (magnitudeOf y)) (negative x))
+    (turned-size (arcOf (scaledOf (sidesOf (magnitudeOf y) (magnitudeOf x)))) (lt (magnitudeOf x) (magnitudeOf y)) (negative x)
+    (arc-size (scaledOf (sidesOf (magnitudeOf y) (magnitudeOf x)))
+    (scaled-ranged (sidesOf (magnitudeOf y) (magnitudeOf x)) (sides-ordered (magnitudeOf y) (magnitudeOf x) (magnitude-fits y F) (magnitude-fits x G) (magnitude-above y n) (magnitude-above x m))))
     .fine))
 
 pub angle-finite : (y x : Float) → T (fits binary64 y) → T (fits binary64 x) → T (finite y) → T (finite x) → T (finite (angleOf y x))
@@ -70,8 +72,8 @@ signed-not false r = refl
 number : (y : Float) → isNan y ≡ false → T (not (isNan y))
 number y p = subst (λ (b : Bool). T (not b)) (sym p) tt
 
-same-magnitude : (y : Float) → T (fits binary64 y) → magnitude (neg y) ≡ magnitude y
-same-magnitude y F = magnitude-is (neg y) (neg-fits binary64 y F) ∙ bare-neg y ∙ sym (magnitude-is y F)
+same-magnitude : (y : Float) → magnitudeOf (neg y) ≡ magnitudeOf y
+same-magnitude y = sym (bare-is (neg y)) ∙ bare-neg y ∙ bare-is y
 
 other-sign : (y : Float) → T (fits binary64 y) → T (not (isNan y)) → negative (neg y) ≡ not (negative y)
 other-sign y F n =
@@ -89,7 +91,7 @@ angle-odd y x F = go (isNan y) (isNan x) refl refl
     go true b p q = rw (neg-nan y, p) nan-is
     go false true p q = rw (neg-nan y, p, q) nan-is
     go false false p q =
-        rw (neg-nan y, p, q, same-magnitude y F, other-sign y F (number y p)) (signed-not (negative y) (upperOf (magnitude y) (magnitude x) (negative x)))
+        rw (neg-nan y, p, q, same-magnitude y, other-sign y F (number y p)) (signed-not (negative y) (upperOf (magnitudeOf y) (magnitudeOf x) (negative x)))
 
 -- ---- values, by their patterns
 unfoldable pub at : ℕ → ℕ → ℕ
@@ -98,17 +100,17 @@ at y x = toBits binary64 (angleOf (ofBits binary64 y) (ofBits binary64 x))
 -- 0, π/2, π, π/4, 3π/4 at (y, x) = (0, 1), (1, 0), (0, -1), (1, 1), (1, -1)
 pub angle-values : (at 0 0x3FF0000000000000 ∷ at 0x3FF0000000000000 0 ∷ at 0 0xBFF0000000000000 ∷ at 0x3FF0000000000000 0x3FF0000000000000 ∷ at 0x3FF0000000000000 0xBFF0000000000000 ∷ [])
     ≡ (0 ∷ 0x3FF921FB54442D18 ∷ 0x400921FB54442D18 ∷ 0x3FE921FB54442D18 ∷ 0x4002D97C7F3321D2 ∷ [])
-unfolding at angleOf upperOf turnedOf awayOf backOf quarterTurn halfTurn arcOf tabledArcOf joinedOf seriesOf tangentOf stepOf grid leading scaledOf loweredOf raisedOf times flat even infinity sidesOf largerOf smallerOf magnitude negative tabledOf atanHigh atanLow neg ofBits toBits isNan lt le eq add sub mul div
+unfolding at angleOf upperOf turnedOf awayOf backOf quarterTurn halfTurn arcOf tabledArcOf joinedOf seriesOf tangentOf stepOf grid leading scaledOf loweredOf raisedOf times flat even infinity sidesOf largerOf smallerOf negative tabledOf atanHigh atanLow neg ofBits toBits isNan lt le eq add sub mul div
 angle-values = refl
 
 -- ±0 beside +0 is itself, and beside -0 it is ±π
 pub angle-zeros : (at 0 0 ∷ at 0x8000000000000000 0 ∷ at 0 0x8000000000000000 ∷ at 0x8000000000000000 0x8000000000000000 ∷ [])
     ≡ (0 ∷ 0x8000000000000000 ∷ 0x400921FB54442D18 ∷ 0xC00921FB54442D18 ∷ [])
-unfolding at angleOf upperOf turnedOf awayOf backOf quarterTurn halfTurn arcOf tabledArcOf joinedOf seriesOf tangentOf stepOf grid leading scaledOf loweredOf raisedOf times flat even infinity sidesOf largerOf smallerOf magnitude negative tabledOf atanHigh atanLow neg ofBits toBits isNan lt le eq add sub mul div
+unfolding at angleOf upperOf turnedOf awayOf backOf quarterTurn halfTurn arcOf tabledArcOf joinedOf seriesOf tangentOf stepOf grid leading scaledOf loweredOf raisedOf times flat even infinity sidesOf largerOf smallerOf negative tabledOf atanHigh atanLow neg ofBits toBits isNan lt le eq add sub mul div
 angle-zeros = refl
 
 -- an infinity beside 1, and two infinities: 0, π, π/2, π/4, -3π/4; a not-a-number in either place
 pub angle-infinities : (at 0x3FF0000000000000 0x7FF0000000000000 ∷ at 0x3FF0000000000000 0xFFF0000000000000 ∷ at 0x7FF0000000000000 0x3FF0000000000000 ∷ at 0x7FF0000000000000 0x7FF0000000000000 ∷ at 0xFFF0000000000000 0xFFF0000000000000 ∷ at 0x7FF8000000000000 0 ∷ at 0 0x7FF8000000000000 ∷ [])
     ≡ (0 ∷ 0x400921FB54442D18 ∷ 0x3FF921FB54442D18 ∷ 0x3FE921FB54442D18 ∷ 0xC002D97C7F3321D2 ∷ 0x7FF8000000000000 ∷ 0x7FF8000000000000 ∷ [])
-unfolding at angleOf upperOf turnedOf awayOf backOf quarterTurn halfTurn arcOf tabledArcOf joinedOf seriesOf tangentOf stepOf grid leading scaledOf loweredOf raisedOf times flat even infinity sidesOf largerOf smallerOf magnitude negative tabledOf atanHigh atanLow neg ofBits toBits isNan lt le eq add sub mul div
+unfolding at angleOf upperOf turnedOf awayOf backOf quarterTurn halfTurn arcOf tabledArcOf joinedOf seriesOf tangentOf stepOf grid leading scaledOf loweredOf raisedOf times flat even infinity sidesOf largerOf smallerOf negative tabledOf atanHigh atanLow neg ofBits toBits isNan lt le eq add sub mul div
 angle-infinities = refl

@@ -5,16 +5,17 @@ use mathlib.Core.Bool.{Bool, true, false, not, _&&_, cond}
 use Prim.Native.Nat.{ℕ, _%_, _^_, _≤_}
 use lib.Dec.{T}
 use lib.Ieee.{Float, inf, binary64, ofBits, toBits, mul, fits, isNan, lt, le, eq}
-use lib.Ieee.Bits.{ofBits-toBits, ofBits-fits}
 use lib.Ieee.Fits.{and-i, and-l, and-r, mul-fits}
 use lib.Ieee.Scale.{finite}
 use Rattle.laws.proofs.Value.{sign, bare}
 use Rattle.laws.proofs.Order.{nought, lt→le, le-ordered, le-trans-float, finite-between, mul-mono-pos}
-use Rattle.laws.proofs.Bits.{infBits, ofBits-bare, toBits-sign-bit, toBits-bare, toBits-at-most, bare-fits, bare-no-nan, bare-sign}
+use Rattle.laws.proofs.Bits.{infBits, toBits-sign-bit, toBits-bare, toBits-at-most, bare-fits, bare-no-nan, bare-sign}
 use Rattle.laws.proofs.Interval.{Interval, iv, Expr, var, lit, product, eval, passes, Between, bounded, in-literals}
+use Rattle.machine.specs.Magnitude.{magnitudeOf}
 use Rattle.machine.specs.Small.{nothing}
+use Rattle.machine.proofs.MagnitudeFacts.{bare-is}
 use Rattle.angle.proofs.Ends.{bare-above, not-below, finite-of, positive-of, positive-above, at-most-largest, at-least-smallest}
-use Rattle.angle.specs.Angle.{infinity, negative, magnitude, largerOf, smallerOf, sidesOf, times, flat, even, loweredOf, raisedOf, scaledOf}
+use Rattle.angle.specs.Angle.{infinity, negative, largerOf, smallerOf, sidesOf, times, flat, even, loweredOf, raisedOf, scaledOf}
 use Rattle.angle.specs.Range.{lowest, highest, Ordered, Ranged}
 use Rattle.angle.specs.declared.angle.Triangle.{Triangle}
 
@@ -34,20 +35,15 @@ pub to-zero : (x : Float) → T (le nought x) → T (le nothing x)
 to-zero x h = subst (λ (z : Float). T (le z x)) (sym zero-is) h
 
 -- ---- a magnitude
-pub magnitude-is : (x : Float) → T (fits binary64 x) → magnitude x ≡ bare x
-unfolding magnitude
-magnitude-is x F = ofBits-bare (toBits binary64 x) ∙ ap bare (ofBits-toBits binary64 x F)
-
 pub negative-is : (x : Float) → T (fits binary64 x) → T (not (isNan x)) → negative x ≡ sign x
 unfolding negative
 negative-is x F n = sym (toBits-sign-bit x F n)
 
-pub magnitude-fits : (x : Float) → T (fits binary64 (magnitude x))
-unfolding magnitude
-magnitude-fits x = ofBits-fits binary64 _
+pub magnitude-fits : (x : Float) → T (fits binary64 x) → T (fits binary64 (magnitudeOf x))
+magnitude-fits x F = subst (λ (z : Float). T (fits binary64 z)) (bare-is x) (bare-fits x F)
 
-pub magnitude-above : (x : Float) → T (fits binary64 x) → T (not (isNan x)) → T (le nothing (magnitude x))
-magnitude-above x F n = to-zero (magnitude x) (subst (λ (z : Float). T (le nought z)) (sym (magnitude-is x F)) (bare-above x n))
+pub magnitude-above : (x : Float) → T (not (isNan x)) → T (le nothing (magnitudeOf x))
+magnitude-above x n = to-zero (magnitudeOf x) (subst (λ (z : Float). T (le nought z)) (bare-is x) (bare-above x n))
 
 -- the pattern without the sign's bit is no not-a-number's
 pub bare-pattern : (x : Float) → T (fits binary64 x) → T (not (isNan x)) → toBits binary64 x % 2 ^ 63 ≤ infBits
@@ -175,6 +171,6 @@ pub ranged-at : (y x : Float) (p s : Triangle) → T (fits binary64 y) → T (fi
 ranged-at y x p s F G h e g =
     subst Ranged (sym (g ∙ ap scaledOf e)) (scaled-ranged (sidesOf y x) (sides-ordered y x F G (and-l (le nothing y) (le nothing x) h) (and-r (le nothing y) (le nothing x) h)))
 
-pub above-at : (y x a b : Float) → T (fits binary64 y) → T (fits binary64 x) → T (not (isNan y)) → T (not (isNan x)) → a ≡ magnitude y → b ≡ magnitude x → T (le nothing a && le nothing b)
-above-at y x a b F G n m e g =
-    subst₂ (λ (u v : Float). T (le nothing u && le nothing v)) (sym e) (sym g) (and-i (le nothing (magnitude y)) (le nothing (magnitude x)) (magnitude-above y F n) (magnitude-above x G m))
+pub above-at : (y x a b : Float) → T (not (isNan y)) → T (not (isNan x)) → a ≡ magnitudeOf y → b ≡ magnitudeOf x → T (le nothing a && le nothing b)
+above-at y x a b n m e g =
+    subst₂ (λ (u v : Float). T (le nothing u && le nothing v)) (sym e) (sym g) (and-i (le nothing (magnitudeOf y)) (le nothing (magnitudeOf x)) (magnitude-above y n) (magnitude-above x m))

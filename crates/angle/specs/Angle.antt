@@ -6,6 +6,7 @@ use Prim.Native.Nat.{_-_, _%_}
 use mathlib.Core.Bool.{Bool, _||_, cond}
 use lib.Dec.{leb}
 use lib.Ieee.{Float, nan, binary64, ofBits, toBits, neg, add, sub, mul, div, lt, le, eq, isNan}
+use Rattle.machine.specs.Magnitude.{magnitudeOf}
 use Rattle.machine.specs.Small.{nothing, one}
 use Rattle.angle_tables.specs.Tables.{tabledOf}
 use Rattle.angle.specs.declared.angle.Triangle.{Triangle}
@@ -26,9 +27,6 @@ grid = ofBits binary64 0x42D0000000000000
 
 unfoldable pub negative : Float → Bool
 negative x = leb 0x8000000000000000 (toBits binary64 x)
-
-unfoldable pub magnitude : Float → Float
-magnitude x = ofBits binary64 (toBits binary64 x % 0x8000000000000000)
 
 -- the leading 26 digits
 unfoldable pub leading : Float → Float
@@ -186,4 +184,4 @@ upperOf y x left = turnedOf (arcOf (scaledOf (sidesOf y x))) (lt x y) left
 unfoldable pub angleOf : Float → Float → Float
 angleOf y x =
     cond (isNan y || isNan x) nan
-    (let r = upperOf (magnitude y) (magnitude x) (negative x) in cond (negative y) (neg r) r)
+    (let r = upperOf (magnitudeOf y) (magnitudeOf x) (negative x) in cond (negative y) (neg r) r)

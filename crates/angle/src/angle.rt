@@ -6,12 +6,13 @@ ghost use mathlib.Core.Bool.{not, _&&_};
 ghost use lib.Dec.{T};
 ghost use lib.Ieee.{isNan, le};
 ghost use Rattle.machine.specs.Small.{nothing, one};
-ghost use Rattle.angle.specs.Angle.{negative, magnitude, leading, largerOf, smallerOf, sidesOf, loweredOf, raisedOf, scaledOf};
+ghost use Rattle.angle.specs.Angle.{negative, leading, largerOf, smallerOf, sidesOf, loweredOf, raisedOf, scaledOf};
 ghost use Rattle.angle.specs.Angle.{stepOf, tangentOf, seriesOf, joinedOf, tabledArcOf, arcOf, turnedOf, awayOf, upperOf, angleOf};
 ghost use Rattle.angle.specs.Range.{Ranged};
 use angle_tables::tables::Sum;
 use angle_tables::tables::tabled;
 use machine::constants;
+use machine::magnitude::magnitude;
 
 // atan v = v + A3 v^3 + A5 v^5 + A7 v^7, fitted to |v| <= 1/128
 const A3: f64 = -0.33333333333333254;
@@ -47,13 +48,6 @@ fn is_negative(x: f64) -> bool
     ensures { λ r. ⌜ r ≡ negative x ⌝ }
 {
     f64::to_bits(x) >= 0x8000000000000000
-}
-
-fn without_sign(x: f64) -> f64
-    requires { ⌜ T (not (isNan x)) ⌝ }
-    ensures { λ r. ⌜ r ≡ magnitude x ⌝ }
-{
-    f64::from_bits(f64::to_bits(x) % 0x8000000000000000)
 }
 
 // The leading 26 digits: a product of two such numbers is exact.
@@ -275,7 +269,7 @@ pub fn angle(y: f64, x: f64) -> f64
     if x != x {
         return constants::not_a_number();
     }
-    let r = upper(without_sign(y), without_sign(x), is_negative(x));
+    let r = upper(magnitude(y), magnitude(x), is_negative(x));
     if is_negative(y) {
         return -r;
     }

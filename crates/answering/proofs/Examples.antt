@@ -11,7 +11,6 @@ use Rattle.machine.specs.Constants.{underflowLimit}
 use Rattle.refusal.specs.declared.refusal.Refusal.the-variants as refusals
 use Rattle.roots.specs.Hypot.{hypotOf}
 use Rattle.complex.specs.Functions.{modulusOf}
-use Rattle.complex.specs.Lost.{magnitudeOf}
 use Rattle.series_step.specs.Setting.{orderAt, orderPlusOne}
 use Rattle.power_series.specs.Series.{beyondSeries}
 use Rattle.power_series.specs.Tiny.{lowestOf, zerosOf, tinyOf}
@@ -53,7 +52,7 @@ abbrev origin : Arguments
 origin = record { order = nought; z = record { re = nought; im = nought }; modulus = nought }
 
 prepared : argumentsOf nought nought nought ≡ origin
-unfolding argumentsOf normalisedOf modulusOf hypotOf magnitudeOf ofBits ofInt round size neg add mul eq le lt
+unfolding argumentsOf normalisedOf modulusOf hypotOf ofBits ofInt round size neg add mul eq le lt
 prepared = refl
 
 series-admitted : verdictOf (seriesChecks origin 4) ≡ Admitted

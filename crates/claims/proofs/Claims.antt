@@ -16,7 +16,7 @@ use Rattle.call.specs.declared.answer.Answer.{Answer}
 use Rattle.call.specs.Checks.{Check, numbersOf}
 use Rattle.call.proofs.FirstFacts.{Given, FirstDecides, first-decides}
 use Rattle.complex.specs.declared.number.Complex.{Complex}
-use Rattle.complex.specs.Lost.{magnitudeOf}
+use Rattle.machine.specs.Magnitude.{magnitudeOf}
 use Rattle.roots.specs.Sqrt.{NearestRoot, sqrtOf}
 use Rattle.roots.specs.Hypot.{hypotOf}
 use Rattle.roots.specs.Close.{NormalValue, SquareClose}
@@ -80,24 +80,24 @@ of-checks = record { first = first-decides }
 pub record OfK : Type 0 where
   -- the contract of `k` gives the record and the cells: no second outcome fits it
   pub one-outcome :
-    (scaled : Bool) (v re im : Float) (length : ℕ) (p q : Outcome) →
-    let o = kOutcome scaled v re im length in (p .answer ≡ o .answer) × (p .cells ≡ o .cells) → (q .answer ≡ o .answer) × (q .cells ≡ o .cells) → p ≡ q
+      (scaled : Bool) (v re im : Float) (length : ℕ) (p q : Outcome) →
+      let o = kOutcome scaled v re im length in (p .answer ≡ o .answer) × (p .cells ≡ o .cells) → (q .answer ≡ o .answer) × (q .cells ≡ o .cells) → p ≡ q
   -- each number exactly when its check is the first that applies, 0 exactly when none does, and no number but those of the list
   pub numbers : (scaled : Bool) (v re im : Float) (length : ℕ) → Given (allKChecks scaled (argumentsOf v re im) length) (kOutcome scaled v re im length .answer .number)
   pub listed : (scaled : Bool) (a : Arguments) (length : ℕ) → numbersOf (allKChecks scaled a length) ≡ 1 ∷ 2 ∷ 3 ∷ 3 ∷ 3 ∷ 4 ∷ 6 ∷ 7 ∷ 8 ∷ []
   -- refused, with the fixed not-a-number in every cell and counts of zero; or answered by the defined steps
   pub whole :
-    (scaled : Bool) (v re im : Float) (length : ℕ) →
-    RefusedWhole length (kOutcome scaled v re im length) ⊎ k.AnsweredWhole scaled (argumentsOf v re im) length (kOutcome scaled v re im length)
+      (scaled : Bool) (v re im : Float) (length : ℕ) →
+      RefusedWhole length (kOutcome scaled v re im length) ⊎ k.AnsweredWhole scaled (argumentsOf v re im) length (kOutcome scaled v re im length)
   -- in every answered call: r + n - 2 rungs, at most 256 backward steps, +0 in the entries before the count
   pub counts :
-    (scaled : Bool) (v re im : Float) (length : ℕ) → kOutcome scaled v re im length .answer .number ≡ 0 →
-    k.Counted scaled (argumentsOf v re im) length (kOutcome scaled v re im length)
+      (scaled : Bool) (v re im : Float) (length : ℕ) → kOutcome scaled v re im length .answer .number ≡ 0 →
+      k.Counted scaled (argumentsOf v re im) length (kOutcome scaled v re im length)
   pub terms : (scaled : Bool) (v re im : Float) (length : ℕ) → kOutcome scaled v re im length .answer .number ≡ 0 → kOutcome scaled v re im length .answer .«longest_sum» ≤ 18
   -- whenever Temme's sum is begun, it meets its own test by the term 18
   pub temme :
-    (z : Complex) (m v w : Float) → T (le m (ofBits binary64 0x4000000000000000)) → (g : Gammas) (exp cosh shinc : Complex) → T (le tolerance m) →
-    temme.EndsByTest (summedOf z m v w (startOf g exp cosh shinc))
+      (z : Complex) (m v w : Float) → T (le m (ofBits binary64 0x4000000000000000)) → (g : Gammas) (exp cosh shinc : Complex) → T (le tolerance m) →
+      temme.EndsByTest (summedOf z m v w (startOf g exp cosh shinc))
   -- the difference series of the reciprocal gammas ends by its own test
   pub difference : (v : Float) → T (le (magnitudeOf v) (ofBits binary64 0x3FB999999999999A)) → difference.SeriesEnds (difference.seriesOf (fractionSquare v))
 
@@ -116,15 +116,15 @@ of-k = record {
 -- ---- the power series, for either sign of z²/4: I is the one that is not turned
 pub record OfSeries : Type 0 where
   pub one-outcome :
-    (scaled turned : Bool) (v re im : Float) (length : ℕ) (p q : Outcome) →
-    let o = seriesOutcome scaled turned v re im length in (p .answer ≡ o .answer) × (p .cells ≡ o .cells) → (q .answer ≡ o .answer) × (q .cells ≡ o .cells) → p ≡ q
+      (scaled turned : Bool) (v re im : Float) (length : ℕ) (p q : Outcome) →
+      let o = seriesOutcome scaled turned v re im length in (p .answer ≡ o .answer) × (p .cells ≡ o .cells) → (q .answer ≡ o .answer) × (q .cells ≡ o .cells) → p ≡ q
   pub numbers :
-    (scaled turned : Bool) (v re im : Float) (length : ℕ) →
-    Given (allSeriesChecks scaled turned (argumentsOf v re im) length) (seriesOutcome scaled turned v re im length .answer .number)
+      (scaled turned : Bool) (v re im : Float) (length : ℕ) →
+      Given (allSeriesChecks scaled turned (argumentsOf v re im) length) (seriesOutcome scaled turned v re im length .answer .number)
   pub listed : (scaled turned : Bool) (a : Arguments) (length : ℕ) → numbersOf (allSeriesChecks scaled turned a length) ≡ 1 ∷ 2 ∷ 3 ∷ 3 ∷ 3 ∷ 5 ∷ 8 ∷ []
   pub whole :
-    (scaled turned : Bool) (v re im : Float) (length : ℕ) →
-    RefusedWhole length (seriesOutcome scaled turned v re im length) ⊎ i.AnsweredWhole scaled turned (argumentsOf v re im) length (seriesOutcome scaled turned v re im length)
+      (scaled turned : Bool) (v re im : Float) (length : ℕ) →
+      RefusedWhole length (seriesOutcome scaled turned v re im length) ⊎ i.AnsweredWhole scaled turned (argumentsOf v re im) length (seriesOutcome scaled turned v re im length)
   -- every sum that an answered call begins meets its own test by the term 19
   pub sums : (scaled turned : Bool) (v re im : Float) (length : ℕ) → T (fits binary64 re) → T (fits binary64 im) → seriesOutcome scaled turned v re im length .answer .number ≡ 0 →
       (at : ℕ) → let a = argumentsOf v re im in let g = series.settingOf scaled turned (a .order) (a .z) (a .modulus) in let u = orderPlusOne (a .order) (walkAfter g (length / 2) at .standing .left - 1) in
@@ -137,12 +137,12 @@ of-series = record { one-outcome = i.only-outcome; numbers = i.numbers; listed =
 pub record OfI : Type 0 where
   pub series : (scaled : Bool) (v re im : Float) (length : ℕ) → iOutcome scaled v re im length ≡ seriesOutcome scaled false v re im length
   pub one-outcome :
-    (scaled : Bool) (v re im : Float) (length : ℕ) (p q : Outcome) →
-    let o = iOutcome scaled v re im length in (p .answer ≡ o .answer) × (p .cells ≡ o .cells) → (q .answer ≡ o .answer) × (q .cells ≡ o .cells) → p ≡ q
+      (scaled : Bool) (v re im : Float) (length : ℕ) (p q : Outcome) →
+      let o = iOutcome scaled v re im length in (p .answer ≡ o .answer) × (p .cells ≡ o .cells) → (q .answer ≡ o .answer) × (q .cells ≡ o .cells) → p ≡ q
   pub numbers : (scaled : Bool) (v re im : Float) (length : ℕ) → Given (allSeriesChecks scaled false (argumentsOf v re im) length) (iOutcome scaled v re im length .answer .number)
   pub whole :
-    (scaled : Bool) (v re im : Float) (length : ℕ) →
-    RefusedWhole length (iOutcome scaled v re im length) ⊎ i.AnsweredWhole scaled false (argumentsOf v re im) length (iOutcome scaled v re im length)
+      (scaled : Bool) (v re im : Float) (length : ℕ) →
+      RefusedWhole length (iOutcome scaled v re im length) ⊎ i.AnsweredWhole scaled false (argumentsOf v re im) length (iOutcome scaled v re im length)
 
 of-i : OfI
 unfolding iOutcome
@@ -157,9 +157,9 @@ of-i = record {
 pub record OfLogGamma : Type 0 where
   pub one-outcome : (x : Float) (a b : LogGamma) → a ≡ logGammaOf x → b ≡ logGammaOf x → a ≡ b
   pub value :
-    (x : Float) →
-    (numberGiven (logGammaOf x) ≡ 0 → T (positive x) × T (finite (gammaLnOf x .value)))
-    × (T (positive x) → T (finite (gammaLnOf x .value)) → logGammaOf x ≡ Value (gammaLnOf x .value))
+      (x : Float) →
+      (numberGiven (logGammaOf x) ≡ 0 → T (positive x) × T (finite (gammaLnOf x .value)))
+      × (T (positive x) → T (finite (gammaLnOf x .value)) → logGammaOf x ≡ Value (gammaLnOf x .value))
   pub numbers : (x : Float) → Given (log-gammas.allChecks x) (numberGiven (logGammaOf x))
   pub listed : (x : Float) → numbersOf (log-gammas.allChecks x) ≡ 2 ∷ 10 ∷ 8 ∷ []
 
@@ -180,11 +180,11 @@ pub record OfFrames : Type 0 where
   pub asking-read : (f : Fields) → FieldsFit f → framedOf (askingLineOf f) ≡ Frame f
   pub asking-again : (line : List ℕ) (f : Fields) → framedOf line ≡ Frame f → askingLineOf f ≡ line
   pub answered-read :
-    (a : Answer) (cells : List Float) (n : ℕ) → RecordFits (saidOf a n) → a .number ≡ 0 → length-of cells ≡ n * 2 → readingOf (lineOf a cells) ≡ Readable (saidOf a n)
+      (a : Answer) (cells : List Float) (n : ℕ) → RecordFits (saidOf a n) → a .number ≡ 0 → length-of cells ≡ n * 2 → readingOf (lineOf a cells) ≡ Readable (saidOf a n)
   pub refused-read : (a : Answer) (cells : List Float) → RecordFits (saidOf a 0) → (a .number ≡ 0 → ⊥) → readingOf (lineOf a cells) ≡ Readable (saidOf a 0)
   pub cell-read :
-    (a : Answer) (cells : List Float) (at : ℕ) (z : Float) → a .number ≡ 0 → at < length-of cells → T (fits binary64 (getD cells at z)) →
-    cellBitsOf at (lineOf a cells) ≡ toBits binary64 (getD cells at z)
+      (a : Answer) (cells : List Float) (at : ℕ) (z : Float) → a .number ≡ 0 → at < length-of cells → T (fits binary64 (getD cells at z)) →
+      cellBitsOf at (lineOf a cells) ≡ toBits binary64 (getD cells at z)
   pub answer-again : (line : List ℕ) (r : readings.Record) → readingOf line ≡ Readable r → lineAgain r (bitsRead (r .pairs * 2) line) ≡ line
 
 of-frames : OfFrames
@@ -194,15 +194,15 @@ of-frames = record { asking-read = asking-read; asking-again = asking-again; ans
 pub record OfLines : Type 0 where
   -- the contract of `answer_line` gives the length and the bytes: no second line fits it
   pub one-line :
-    (d line p q : List ℕ) (n m : ℕ) → (n ≡ sizeInto (length-of d) line) × (p ≡ bytesInto d line) → (m ≡ sizeInto (length-of d) line) × (q ≡ bytesInto d line) →
-    (n ≡ m) × (p ≡ q)
+      (d line p q : List ℕ) (n m : ℕ) → (n ≡ sizeInto (length-of d) line) × (p ≡ bytesInto d line) → (m ≡ sizeInto (length-of d) line) × (q ≡ bytesInto d line) →
+      (n ≡ m) × (p ≡ q)
   -- the first two digits are the outcome's number; 9 exactly for a malformed line
   pub number : (line : List ℕ) → numberOf (take byteWidth (answerLineOf line)) ≡ outcomeOf (parsedOf line) .answer .number
   pub malformed : (line : List ℕ) → let number = numberOf (take byteWidth (answerLineOf line)) in (number ≡ 9 → parsedOf line ≡ Malformed) × (parsedOf line ≡ Malformed → number ≡ 9)
   -- 18 digits, and 32 more a pair behind the number 0
   pub refused-length : (line : List ℕ) → (outcomeOf (parsedOf line) .answer .number ≡ 0 → ⊥) → length-of (answerLineOf line) ≡ recordLength
   pub answered-length :
-    (line : List ℕ) (a : Asking) → parsedOf line ≡ Asked a → calledOf a (a .count * 2) .answer .number ≡ 0 → length-of (answerLineOf line) ≡ recordLength + a .count * 32
+      (line : List ℕ) (a : Asking) → parsedOf line ≡ Asked a → calledOf a (a .count * 2) .answer .number ≡ 0 → length-of (answerLineOf line) ≡ recordLength + a .count * 32
   -- every answer line keeps the layout by which answer lines are read
   pub readable : (line : List ℕ) → readingOf (answerLineOf line) ≡ Readable (recordAt (answerLineOf line))
 

@@ -3,19 +3,20 @@ use mathlib.Core.Path.{_≡_, refl}
 use mathlib.Core.Bool.{Bool, true, false, _&&_}
 use lib.Ieee.{Float, nan, inf, fin, binary64, ofBits, neg, lt, le, mul}
 use Rattle.machine.specs.Constants.{absoluteApproximationLimit, inverseTolerance}
-use Rattle.complex.specs.Lost.{magnitudeOf, lostBeside, lostOf}
+use Rattle.machine.specs.Magnitude.{magnitudeOf}
+use Rattle.complex.specs.Lost.{lostBeside, lostOf}
 
 pub zero-not-lost : lostOf (record { re = ofBits binary64 0; im = ofBits binary64 0 }) ≡ false
-unfolding lostOf lostBeside magnitudeOf absoluteApproximationLimit inverseTolerance ofBits neg lt le mul
+unfolding lostOf lostBeside absoluteApproximationLimit inverseTolerance ofBits neg lt le mul
 zero-not-lost = refl
 
 pub one-not-lost : lostOf (record { re = ofBits binary64 0x3FF0000000000000; im = ofBits binary64 0 }) ≡ false
-unfolding lostOf lostBeside magnitudeOf absoluteApproximationLimit inverseTolerance ofBits neg lt le mul
+unfolding lostOf lostBeside absoluteApproximationLimit inverseTolerance ofBits neg lt le mul
 one-not-lost = refl
 
 -- 2^-980
 pub small-lost : lostOf (record { re = ofBits binary64 0x02B0000000000000; im = ofBits binary64 0x02B0000000000000 }) ≡ true
-unfolding lostOf lostBeside magnitudeOf absoluteApproximationLimit inverseTolerance ofBits neg lt le mul
+unfolding lostOf lostBeside absoluteApproximationLimit inverseTolerance ofBits neg lt le mul
 small-lost = refl
 
 -- ---- a not-a-number part
@@ -41,14 +42,10 @@ nan-beside : (b : Float) → lostBeside nan b ≡ false
 unfolding lostBeside le lt
 nan-beside b = refl
 
-magnitude-nan : magnitudeOf nan ≡ nan
-unfolding magnitudeOf lt
-magnitude-nan = refl
-
 pub nan-re-not-lost : (y : Float) → lostOf (record { re = nan; im = y }) ≡ false
 unfolding lostOf
-nan-re-not-lost y = rw (magnitude-nan, lt-nan) (nan-beside (magnitudeOf y))
+nan-re-not-lost y = rw lt-nan (nan-beside (magnitudeOf y))
 
 pub nan-im-not-lost : (x : Float) → lostOf (record { re = x; im = nan }) ≡ false
 unfolding lostOf lt
-nan-im-not-lost x = rw magnitude-nan (beside-nan (magnitudeOf x))
+nan-im-not-lost x = beside-nan (magnitudeOf x)

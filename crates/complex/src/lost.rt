@@ -1,18 +1,10 @@
 // Whether a value kept on scale is lost once it is scaled back: its smaller part would underflow within the digits of its larger one.
 // From src/amos/utils.rs, will_underflow (ZUCHK). Promised: lostOf of specs/Lost.antt; never with a not-a-number part.
 ghost use mathlib.Core.Path.{_≡_};
-ghost use Rattle.complex.specs.Lost.{magnitudeOf, lostBeside, lostOf};
+ghost use Rattle.complex.specs.Lost.{lostBeside, lostOf};
 use crate::number::Complex;
 use machine::constants::Machine;
-
-pub fn magnitude(x: f64) -> f64
-    ensures { λ r. ⌜ r ≡ magnitudeOf x ⌝ }
-{
-    if x < 0.0 {
-        return -x;
-    }
-    x
-}
+pub use machine::magnitude::magnitude;
 
 fn lost_beside(smaller: f64, larger: f64) -> bool
     ensures { λ r. ⌜ r ≡ lostBeside smaller larger ⌝ }

@@ -1,14 +1,14 @@
 -- The sign of x is taken off and put back: sinh is odd and cosh is even, not-a-numbers, infinities and both zeros included. Assumes nothing.
-use mathlib.Core.Path.{_≡_, refl, sym, ap, _∙_, subst}
-use mathlib.Core.Bool.{Bool, true, false, not, cond}
+use mathlib.Core.Path.{_≡_, refl, sym, ap, _∙_}
+use mathlib.Core.Bool.{true, false, not, cond}
 use Prim.Native.Nat.{_%_, _≤_, _<_}
 use borrow.Author.Tests.{le-leb, lt-leb}
 use lib.Dec.{T}
-use lib.Ieee.{Float, nan, inf, fin, binary64, neg, lt, le, ne, eq, ofBits, toBits, fits, isNan, nanBits}
-use lib.Ieee.Bits.{ofBits-toBits, nanBits-is}
+use lib.Ieee.{Float, nan, inf, fin, binary64, neg, lt, le, ne, eq, ofBits, toBits, fits, isNan}
+use lib.Ieee.Bits.{ofBits-toBits}
 use Rattle.laws.proofs.Sign.{neg-neg}
 use Rattle.laws.proofs.Value.{sign, bare}
-use Rattle.laws.proofs.Bits.{ofBits-bare, toBits-sign-bit, bare-no-nan}
+use Rattle.laws.proofs.Bits.{ofBits-bare, toBits-sign-bit}
 use Rattle.exponential.specs.Exp.{limit, halfExpFar}
 use Rattle.exponential.specs.Sinh.{sinhMagnitude, sinhOf}
 use Rattle.exponential.specs.Cosh.{coshMagnitude, coshOf}
@@ -16,9 +16,6 @@ use Rattle.exponential.specs.Cosh.{coshMagnitude, coshOf}
 -- the magnitude and the sign by the bits
 pub magnitude-by-bits : (x : Float) → T (fits binary64 x) → ofBits binary64 (toBits binary64 x % 0x8000000000000000) ≡ bare x
 magnitude-by-bits x F = ofBits-bare (toBits binary64 x) ∙ ap bare (ofBits-toBits binary64 x F)
-
-pub magnitude-no-nan : (x : Float) → T (fits binary64 x) → T (not (isNan x)) → T (not (nanBits binary64 (toBits binary64 x % 0x8000000000000000)))
-magnitude-no-nan x F n = subst (λ (b : Bool). T (not b)) (sym (nanBits-is binary64 (toBits binary64 x % 0x8000000000000000) ∙ ap isNan (magnitude-by-bits x F))) (bare-no-nan x n)
 
 pub sign-set : (x : Float) → T (fits binary64 x) → T (not (isNan x)) → 0x8000000000000000 ≤ toBits binary64 x → sign x ≡ true
 sign-set x F n h = toBits-sign-bit x F n ∙ le-leb 0x8000000000000000 (toBits binary64 x) h

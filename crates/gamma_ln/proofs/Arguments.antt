@@ -16,6 +16,7 @@ use lib.Ieee.Positive.{num, den, den-pos, positive, positive-finite, own-value}
 use Rattle.laws.proofs.Order.{nought, Le→le, lt→le}
 use Rattle.laws.proofs.Value.{sign, le-values, lt-values}
 use Rattle.machine.specs.Constants.{gammaLnMinimum}
+use Rattle.machine.specs.Small.{nothing}
 use Rattle.rounding.specs.Round.{roundOf, nearestWhole}
 use Rattle.rounding.proofs.RoundFacts.{round-value, whole-value, nearest}
 use Rattle.gamma_ln.specs.GammaLn.{isTabulated, shiftOf}
@@ -141,10 +142,10 @@ shift-cast x P h =
     fewer k = omega arith
 
 -- ---- what the code's tests say of the argument
-pub tabulated-positive : (x : Float) → le x (ofBits binary64 0) ≡ false → T (isTabulated x) → T (positive x)
+pub tabulated-positive : (x : Float) → le x nothing ≡ false → T (isTabulated x) → T (positive x)
 unfolding isTabulated ofBits
 tabulated-positive x n t = above-zero x (ofBits binary64 0x4059066666666666) n tt (and-l (le x (ofBits binary64 0x4059066666666666)) (eq (roundOf x) x) t)
 
-pub below-positive : (x : Float) → le x (ofBits binary64 0) ≡ false → T (lt x gammaLnMinimum) → T (positive x)
+pub below-positive : (x : Float) → le x nothing ≡ false → T (lt x gammaLnMinimum) → T (positive x)
 unfolding gammaLnMinimum ofBits
 below-positive x n t = above-zero x gammaLnMinimum n tt (lt→le x gammaLnMinimum t)

@@ -20,6 +20,7 @@ use Rattle.laws.proofs.Order.{mul-comm-float}
 use Rattle.laws.proofs.Relative.{nonnegative}
 use Rattle.laws.proofs.Bound.{Up, Lo, Span, up-test, lo-test, up-weaken, lo-of-le, up-of, lo-of, up-one, lo-one, span-of, range-test, mul-up, div-up, upTest, mul-up-by, mul-lo-by, up-lo-lt-by, every-at}
 use Rattle.machine.specs.Constants.{tolerance}
+use Rattle.machine.specs.Small.{one}
 use Rattle.gamma_ln_tables.specs.Tables.{coefficients}
 use Rattle.gamma_ln.specs.declared.series.Terms.{Terms}
 use Rattle.gamma_ln.specs.Series.{isBelow, nextPower, nextTerm, withNext, isDone, firstOf, furtherOf, inverseOf, squareOf, firstTermOf, boundOf, seriesOf, EndsByTest}
@@ -29,7 +30,7 @@ inverse-up : (z : Float) → T (le (ofBits binary64 0x401A000000000000) z) → U
 unfolding inverseOf ofBits
 inverse-up z h =
     div-up binary64 155 1000 (range-test binary64 155 1000 tt) (lit< tt) (lit≤ tt)
-    (up-test (ofBits binary64 0x3FF0000000000000) 1 1 tt)
+    (up-test one 1 1 tt)
     (lo-of-le z (ofBits binary64 0x401A000000000000) (lit< tt) h (lo-test (ofBits binary64 0x401A000000000000) 13 2 tt))
 
 square-up : (z : Float) → Up (inverseOf z) 155 1000 → Up (squareOf z) 2403 100000

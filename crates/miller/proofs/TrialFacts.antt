@@ -6,7 +6,7 @@ use native.Mathlib.Numerals.{add-one}
 use borrow.Author.Tests.{le-leb, lt-leb}
 use lib.Dec.{T}
 use lib.Ieee.{Float, nan, inf, fin, binary64, ofBits, lt}
-use Rattle.roots.specs.Hypot.{magnitudeOf}
+use Rattle.machine.specs.Magnitude.{magnitudeOf}
 use Rattle.miller.specs.declared.search.Start.the-variants.{At, Unmet}
 use Rattle.miller.specs.Trials.{nextTrial, trialAfter, trialsTaken, trialIndex}
 

@@ -5,7 +5,7 @@ use mathlib.Core.Bool.{Bool, cond}
 use lib.Ieee.{Float, neg}
 use Rattle.laws.specs.Operators.{_⊕_, _⊗_, _⊘_}
 use Rattle.machine.specs.Small.{nothing, half, one}
-use Rattle.roots.specs.Hypot.{magnitudeOf}
+use Rattle.machine.specs.Magnitude.{magnitudeOf}
 use Rattle.complex.specs.declared.number.Complex.{Complex}
 use Rattle.complex.specs.Functions.{modulusOf}
 use Rattle.complex.specs.Arithmetic.{zeroPair, oppositeOf, conjugateOf, productOf, quotientOf, overReal, plusReal}

@@ -8,7 +8,7 @@ use lib.Ieee.{Float, binary64, ofInt, lt}
 use Rattle.laws.specs.Run.{firstFrom}
 use Rattle.laws.specs.Operators.{_⊕_, _⊖_, _⊗_, _⊘_}
 use Rattle.machine.specs.Small.{nothing, half, one, two}
-use Rattle.roots.specs.Hypot.{magnitudeOf}
+use Rattle.machine.specs.Magnitude.{magnitudeOf}
 use Rattle.miller.specs.declared.trials.Trial.{Trial}
 use Rattle.miller.specs.declared.search.Start.{Start}
 use Rattle.miller.specs.declared.search.Start.the-variants.{At, Unmet}

@@ -12,8 +12,8 @@ use crate::point::Order;
 use crate::point::Point;
 use crate::point::is_real;
 use crate::search::Start;
-use crate::whole::magnitude;
 use complex::number::Complex;
+use machine::magnitude::magnitude;
 use refusal::refusal::Refusal;
 
 pub struct Miller {

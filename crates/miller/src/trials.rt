@@ -4,7 +4,7 @@ ghost use mathlib.Core.Path.{_≡_};
 ghost use Prim.Native.Nat.{_≤_};
 ghost use Rattle.miller.specs.Trials.{nextTrial, isMet, trialIndex};
 use crate::search::Start;
-use crate::whole::magnitude;
+use machine::magnitude::magnitude;
 
 // The last two values of the recurrence.
 pub struct Trial {

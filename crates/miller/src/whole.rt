@@ -1,19 +1,10 @@
-// Two operations on one number, by its bits: the magnitude, and the whole part of a small number.
-// Promised: magnitudeOf of crate roots, and specs/Whole.antt.
+// The whole part of a small number, by its bits. Promised: specs/Whole.antt.
 ghost use mathlib.Core.Path.{_≡_};
 ghost use Prim.Native.Nat.{_≤_};
 ghost use lib.Dec.{T};
 ghost use lib.Ieee.Scale.{finite};
-ghost use Rattle.roots.specs.Hypot.{magnitudeOf};
 ghost use Rattle.miller.specs.Whole.{truncated};
-use machine::bits::of_pattern;
 use machine::bits::pattern;
-
-pub fn magnitude(x: f64) -> f64
-    ensures { λ r. ⌜ r ≡ magnitudeOf x ⌝ }
-{
-    of_pattern(pattern(x) % 0x8000000000000000)
-}
 
 // A cast asks for a whole number, so the digits behind the point are shifted out first.
 pub fn whole_part(x: f64) -> u32

@@ -12,10 +12,11 @@ use lib.Ieee.{Float, binary64, ofBits, ofInt, round, fits, neg, add, sub, lt, le
 use lib.Ieee.Fits.{mul-fits}
 use lib.Ieee.Scale.{finite}
 use borrow.Author.Tests.{lt-ltb}
+use Rattle.laws.specs.Operators.{_⊕_}
 use Rattle.laws.proofs.Run.{run-on, run-out}
 use Rattle.laws.proofs.Zero.{zeroOf, zero-is}
 use Rattle.machine.specs.Constants.{exponentLimit, approximationLimit}
-use Rattle.machine.specs.Small.{one, half}
+use Rattle.machine.specs.Small.{nothing, half, one}
 use Rattle.complex.specs.declared.number.Complex.{Complex}
 use Rattle.complex.specs.Arithmetic.{productOf, timesReal, minusReal}
 use Rattle.complex.specs.Functions.{modulusOf}
@@ -166,15 +167,15 @@ module _ (turned : Bool) (v : Float) (z : Complex) (m : Float) (s : Bool) (nough
     alone-cells = ap (λ (w : Visited). w .cells) whole ∙ written (leading .0)
 
 -- ---- the same from the test that the order is 0, and from the sum by another name
-order-plus : (v : Float) → add binary64 v (ofBits binary64 0) ≡ orderAt v 0
+order-plus : (v : Float) → v ⊕ nothing ≡ orderAt v 0
 unfolding orderAt ofInt round ofBits
 order-plus v = refl
 
-pub sum-is : (turned : Bool) (v : Float) (z : Complex) (m : Float) → sumOf (add binary64 v (ofBits binary64 0)) (turnedOf turned (squareOf m (timesReal z half))) (halfSquare m) ≡ sumAt turned v z m
+pub sum-is : (turned : Bool) (v : Float) (z : Complex) (m : Float) → sumOf (v ⊕ nothing) (turnedOf turned (squareOf m (timesReal z half))) (halfSquare m) ≡ sumAt turned v z m
 unfolding settingOf
 sum-is turned v z m = ap (λ (o : Float). sumOf o (turnedOf turned (squareOf m (timesReal z half))) (halfSquare m)) (order-plus v)
 
-module _ (turned : Bool) (v : Float) (z : Complex) (m : Float) (F : T (fits binary64 v)) (e : eq v (ofBits binary64 0) ≡ true) (r : Sum) (is : r ≡ sumAt turned v z m) (p : Plain (modulusOf (timesReal z half)) (r .value)) where
+module _ (turned : Bool) (v : Float) (z : Complex) (m : Float) (F : T (fits binary64 v)) (e : eq v nothing ≡ true) (r : Sum) (is : r ≡ sumAt turned v z m) (p : Plain (modulusOf (timesReal z half)) (r .value)) where
   same : Plain (modulusOf (timesReal z half)) (sumAt turned v z m .value)
   same = subst (λ (q : Sum). Plain (modulusOf (timesReal z half)) (q .value)) is p
 

@@ -17,7 +17,7 @@ use Rattle.laws.proofs.Order.{round-zero}
 use Rattle.laws.proofs.Power.{unique, digits}
 use Rattle.laws.proofs.Zero.{zeroOf, zero-fits}
 use Rattle.laws.proofs.Sign.{add-comm-float}
-use Rattle.machine.specs.Small.{one}
+use Rattle.machine.specs.Small.{nothing, one}
 use Rattle.power_series.specs.shapes.Alone.{Something}
 
 -- a value rounds to itself
@@ -57,15 +57,15 @@ sum-zero false false a c h = ap (λ (n : ℕ). round binary64 false n c) (omega 
 sum-zero true false a c h = rw (le-ltb a 0 (omega arith), lt-ltb 0 a h) (ap (λ (n : ℕ). round binary64 true n c) (omega arith))
 sum-zero false true a c h = rw (le-ltb a 0 (omega arith)) (ap (λ (n : ℕ). round binary64 false n c) (omega arith))
 
-zero-equal : (s : Bool) → eq (zeroOf s) (ofBits binary64 0) ≡ true
+zero-equal : (s : Bool) → eq (zeroOf s) nothing ≡ true
 unfolding ofBits eq
 zero-equal true = refl
 zero-equal false = refl
 
-some : (s : Bool) (m : ℕ) (e : ℤ) → T (fits binary64 (fin s m e)) → eq (fin s m e) (ofBits binary64 0) ≡ false → 0 < m
+some : (s : Bool) (m : ℕ) (e : ℤ) → T (fits binary64 (fin s m e)) → eq (fin s m e) nothing ≡ false → 0 < m
 some s zero e F h =
     let z : fin s 0 e ≡ zeroOf s = unique binary64 (fin s 0 e) (zeroOf s) s 0 1 0 1 (lit< tt) (lit< tt) F (zero-fits s) (refl, none (up e) (down e)) (refl, refl) refl in
-    absurd (true≢false (sym (ap (λ (x : Float). eq x (ofBits binary64 0)) z ∙ zero-equal s) ∙ h))
+    absurd (true≢false (sym (ap (λ (x : Float). eq x nothing) z ∙ zero-equal s) ∙ h))
   where
     none : (a b : ℕ) → 0 * a * 1 ≡ 0 * b
     none a b = omega arith

@@ -9,10 +9,11 @@ use Prim.Native.Nat.{ℕ, zero, suc, _+_, _-_, _*_, _≤_, _<_}
 use native.Mathlib.Nat.{zero-lt-suc}
 use native.Mathlib.Omega.{arith}
 use lib.ListN.{length, replicate, length-append, length-replicate}
-use lib.Ieee.{Float, binary64, ofBits}
+use lib.Ieee.{Float}
 use Rattle.laws.specs.Run.{run}
 use Rattle.laws.proofs.Run.{Ends, run-ends}
 use Rattle.machine.specs.Constants.{notANumber}
+use Rattle.machine.specs.Small.{nothing}
 use Rattle.complex.specs.declared.number.Complex.{Complex}
 use Rattle.series_step.specs.declared.setting.Setting.{Setting}
 use Rattle.series_step.specs.declared.descent.Descent.{Descent}
@@ -21,9 +22,6 @@ use Rattle.series_step.specs.Step.{stepOf}
 use Rattle.series_step.proofs.StepFacts.{zeroed, kept, recurred, did}
 use Rattle.power_series.specs.Visit.{Walk, startWalk, isStopped, withEntry, nextWalk, walkOf, visitedOf, visitOf}
 use Rattle.power_series.proofs.WalkFacts.{stopping, stepping}
-
-abbrev nought : Float
-nought = ofBits binary64 0
 
 -- the orders that are done
 abbrev pub ordersOf : Descent → ℕ
@@ -37,7 +35,7 @@ record Along (n i : ℕ) (w : Walk) : Type 0 where
   pub longest : w .standing .state .counts .«longest_sum» ≤ 19
   pub written : length (w .cells) ≡ i * 2
   pub begun : w .standing .state .stopped ≡ true → 0 < i
-  pub zero-entry : w .standing .state .stopped ≡ true → (rest : List Float) × (w .cells ≡ nought ∷ nought ∷ rest)
+  pub zero-entry : w .standing .state .stopped ≡ true → (rest : List Float) × (w .cells ≡ nothing ∷ nothing ∷ rest)
 
 false-true : false ≡ true → ⊥
 false-true e = let z : _≡_ {A = ℕ} 0 1 = cc in omega arith
@@ -69,7 +67,7 @@ module _ (g : Setting) (n : ℕ) where
   sum-longest : (k : ℕ) (s : Descent) → s .counts .«longest_sum» ≤ 19 → stepOf g k s .counts .«longest_sum» ≤ 19
   sum-longest k s l = elim (did g k s) [ zeroed d ↦ d .longest l | kept d ↦ d .longest l | recurred d ↦ d .longest l ]
 
-  entry : (k : ℕ) (s : Descent) (cells : List Float) → stepOf g k s .stopped ≡ true → (rest : List Float) × (stepOf g k s .above .re ∷ stepOf g k s .above .im ∷ cells ≡ nought ∷ nought ∷ rest)
+  entry : (k : ℕ) (s : Descent) (cells : List Float) → stepOf g k s .stopped ≡ true → (rest : List Float) × (stepOf g k s .above .re ∷ stepOf g k s .above .im ∷ cells ≡ nothing ∷ nothing ∷ rest)
   entry k s cells e =
       elim (did g k s) [
         | zeroed d ↦ (cells, ap (λ (z : Complex). z .re ∷ z .im ∷ cells) (d .entry))
@@ -141,7 +139,7 @@ module _ (g : Setting) (n : ℕ) where
   pub record Stopped : Type 0 where
     pub low : visitOf g n .visit .place < n
     pub rest : List Float
-    pub cells : visitOf g n .cells ≡ replicate (visitOf g n .visit .place * 2) notANumber ++ (nought ∷ nought ∷ rest)
+    pub cells : visitOf g n .cells ≡ replicate (visitOf g n .visit .place * 2) notANumber ++ (nothing ∷ nothing ∷ rest)
 
   pub stopped-cells : visitOf g n .visit .stopped ≡ true → Stopped
   unfolding visitOf visitedOf

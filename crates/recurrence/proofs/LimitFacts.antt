@@ -13,7 +13,7 @@ use Rattle.laws.proofs.Order.{nought, le→Le, not-lt→le, mul-mono-pos}
 use Rattle.machine.specs.Constants.{tolerance, inverseTolerance, absoluteApproximationLimit}
 use Rattle.complex.specs.declared.number.Complex.{Complex}
 use Rattle.complex.specs.Arithmetic.{timesReal}
-use Rattle.complex.specs.Lost.{magnitudeOf}
+use Rattle.machine.specs.Magnitude.{magnitudeOf}
 use Rattle.recurrence.specs.State.{reciprocalOf, boundaryOf, limitOf}
 use Rattle.recurrence.specs.Rung.{exceeds, passes}
 use Rattle.recurrence.specs.declared.state.OverflowState.{OverflowState}

@@ -8,7 +8,7 @@ use lib.Ieee.{Float, lt}
 use Rattle.laws.specs.Operators.{_⊕_, _⊖_, _⊗_}
 use Rattle.complex.specs.declared.number.Complex.{Complex}
 use Rattle.complex.specs.Arithmetic.{plusOf, productOf, timesReal}
-use Rattle.complex.specs.Lost.{magnitudeOf}
+use Rattle.machine.specs.Magnitude.{magnitudeOf}
 use Rattle.recurrence.specs.State.{reciprocalOf, limitOf}
 use Rattle.recurrence.specs.Rung.{factorOf, nextOf, exceeds, passes, rungOf}
 use Rattle.recurrence.specs.Climb.{climbFrom}

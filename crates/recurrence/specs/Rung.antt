@@ -6,7 +6,7 @@ use lib.IntN.{pos}
 use lib.Ieee.{Float, binary64, ofInt, add, lt}
 use Rattle.complex.specs.declared.number.Complex.{Complex}
 use Rattle.complex.specs.Arithmetic.{plusOf, productOf, timesReal}
-use Rattle.complex.specs.Lost.{magnitudeOf}
+use Rattle.machine.specs.Magnitude.{magnitudeOf}
 use Rattle.recurrence.specs.State.{scaleOf, reciprocalOf, boundaryOf, movedOn}
 use Rattle.recurrence.specs.declared.state.OverflowState.{OverflowState}
 use Rattle.recurrence.specs.declared.state.OverflowState.the-variants.{NearUnder, None, NearOver}

@@ -5,7 +5,7 @@ ghost use mathlib.Core.Path.{_≡_};
 ghost use Prim.Native.Nat.{_+_, _<_, _^_};
 ghost use lib.Dec.{T};
 ghost use lib.Ieee.{binary64, ofBits, lt};
-ghost use Rattle.complex.specs.Lost.{magnitudeOf};
+ghost use Rattle.machine.specs.Magnitude.{magnitudeOf};
 ghost use Rattle.recurrence.specs.Rung.{factorOf, nextOf, exceeds, passes, movedClimb, rungOf};
 use crate::state::Climb;
 use crate::state::OverflowState;

@@ -2,10 +2,10 @@
 use mathlib.Core.Path.{_≡_, refl, ap, _∙_}
 use mathlib.Core.Bool.{Bool, true, false}
 use lib.Dec.{T}
-use lib.Ieee.{Float, binary64, ofBits, fits, neg, lt, eq}
+use lib.Ieee.{Float, binary64, ofBits, fits, eq}
 use Rattle.circular.specs.CosPi.{cosPiOf}
 use Rattle.circular.proofs.Zeros.{cosPi-zero}
-use Rattle.complex.specs.Lost.{magnitudeOf}
+use Rattle.machine.specs.Magnitude.{magnitudeOf}
 use Rattle.laws.proofs.Zero.{zeroOf, zero-is}
 use Rattle.machine.specs.Small.{one}
 use Rattle.right_half_plane.specs.ByMiller.{rotationOf}
@@ -16,7 +16,7 @@ cosine false = cosPi-zero
 cosine true = cosPi-zero
 
 magnitude-of-one : magnitudeOf one ≡ one
-unfolding magnitudeOf ofBits neg lt
+unfolding ofBits
 magnitude-of-one = refl
 
 signed : (s : Bool) → rotationOf (zeroOf s) ≡ one

@@ -7,7 +7,7 @@ use native.Mathlib.Nat.{le-trans, le-of-eq, le-of-lt, mul-one, mul-assoc, mul-co
 use native.Mathlib.Omega.{arith}
 use lib.Dec.{T, ltb→lt, lit<, lit≤}
 use lib.Pow.{pow-pos}
-use lib.Ieee.{Float, nan, inf, fin, binary64, up, down, round, size, neg, add, mul, lt, le, ofBits, toBits, fits}
+use lib.Ieee.{Float, nan, inf, fin, binary64, up, down, round, size, neg, add, mul, lt, le, eq, ofBits, toBits, fits}
 use lib.Ieee.Fits.{down-pos, add-fits}
 use lib.Ieee.Positive.{num, den, positive, den-pos}
 use lib.Ieee.Scale.{finite}
@@ -27,7 +27,8 @@ use Rattle.roots.proofs.HypotFacts.{hypot-close}
 use Rattle.roots.proofs.HypotValues.{hypot-symmetric}
 use Rattle.complex.specs.declared.number.Complex.{Complex}
 use Rattle.complex.specs.Functions.{modulusOf}
-use Rattle.complex.specs.Lost.{magnitudeOf}
+use Rattle.machine.specs.Magnitude.{magnitudeOf}
+use Rattle.machine.proofs.MagnitudeFacts.{bare-is}
 use Rattle.machine.specs.Small.{nothing, two}
 use Rattle.right_half_plane.proofs.ModulusBound.{modulus-up}
 
@@ -54,43 +55,18 @@ outer-lo = lo-test outer 9 4 tt
 abbrev Inner : Float → Type 0
 Inner x = T (finite x) × (num x * 32 ≤ 45 * den x)
 
-inner-by : (x : Float) (b : Bool) → lt x nothing ≡ b → T (le (cond b (neg x) x) inner) → Inner x
-unfolding neg lt le ofBits
-inner-by nan true e h = absurd h
-inner-by nan false e h = absurd h
-inner-by (inf true) true e h = absurd h
-inner-by (inf true) false e h = absurd (subst T e tt)
-inner-by (inf false) true e h = absurd (subst T (sym e) tt)
-inner-by (inf false) false e h = absurd h
-inner-by (fin true m d) true e h = (tt, up-of-le (fin false m d) inner tt h inner-up .bound)
-inner-by (fin false m d) false e h = (tt, up-of-le (fin false m d) inner tt h inner-up .bound)
-inner-by (fin false m d) true e h = let l = ltb→lt _ _ (subst T (sym e) tt) in absurd (none (m * up d * 1) (down d) l)
-  where
-    none : (n d : ℕ) → n < 0 * 1 * d → ⊥
-    none n d h = omega arith
-inner-by (fin true m d) false e h = let z : m * up d ≡ 0 = nonneg (fin true m d) tt (not-lt→le (fin true m d) nothing tt tt e) in (tt, omega arith)
-
 inner-part : (x : Float) → T (le (magnitudeOf x) inner) → Inner x
-unfolding magnitudeOf
-inner-part x h = inner-by x (lt x nothing) refl h
+unfolding lt le eq ofBits
+inner-part nan h = absurd h
+inner-part (inf s) h = absurd h
+inner-part (fin s m d) h = (tt, up-of-le (fin false m d) inner tt h inner-up .bound)
 
 -- infinite, or finite with a magnitude of 2.25 at least
 abbrev Outer : Float → Type 0
 Outer x = AtLeast (bare x) 9 4
 
-outer-by : (x : Float) (b : Bool) → Lo (cond b (neg x) x) 9 4 → Outer x
-unfolding neg
-outer-by nan true l = l .bound
-outer-by nan false l = l .bound
-outer-by (inf s) b l = tt
-outer-by (fin true m d) true l = l .bound
-outer-by (fin true m d) false l = absurd (l .bound)
-outer-by (fin false m d) true l = absurd (l .bound)
-outer-by (fin false m d) false l = l .bound
-
 outer-part : (x : Float) → T (lt outer (magnitudeOf x)) → Outer x
-unfolding magnitudeOf
-outer-part x h = let m = cond (lt x nothing) (neg x) x in outer-by x (lt x nothing) (lo-of-le m outer (lit< tt) (lt→le outer m h) outer-lo)
+outer-part x h = let m = magnitudeOf x in subst (λ (z : Float). AtLeast z 9 4) (sym (bare-is x)) (lo-of-le m outer (lit< tt) (lt→le outer m h) outer-lo .bound)
 
 -- ---- both parts at most 1.40625
 squared : (n d : ℕ) → n * 32 ≤ 45 * d → n * n * 1024 ≤ 2025 * (d * d)

@@ -11,7 +11,7 @@ use Rattle.roots.specs.Sqrt.{sqrtOf}
 use Rattle.complex.specs.declared.number.Complex.{Complex}
 use Rattle.complex.specs.Arithmetic.{oppositeOf, productOf, realOver}
 use Rattle.complex.specs.Functions.{argumentOf, complexExpOf, atHalfAngle}
-use Rattle.complex.specs.Lost.{magnitudeOf}
+use Rattle.machine.specs.Magnitude.{magnitudeOf}
 use Rattle.recurrence.specs.declared.state.OverflowState.{OverflowState}
 use Rattle.recurrence.specs.declared.state.OverflowState.the-variants.{NearUnder, None}
 use Rattle.miller.specs.declared.point.Point.{Point}

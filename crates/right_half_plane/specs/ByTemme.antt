@@ -8,7 +8,7 @@ use Rattle.machine.specs.Small.{nothing, one}
 use Rattle.complex.specs.declared.number.Complex.{Complex}
 use Rattle.complex.specs.Arithmetic.{productOf, timesReal}
 use Rattle.complex.specs.Functions.{complexLnOf, complexExpOf}
-use Rattle.complex.specs.Lost.{magnitudeOf}
+use Rattle.machine.specs.Magnitude.{magnitudeOf}
 use Rattle.recurrence.specs.declared.state.OverflowState.{OverflowState}
 use Rattle.recurrence.specs.declared.state.OverflowState.the-variants.{None, NearOver}
 use Rattle.recurrence.specs.State.{scaleOf}

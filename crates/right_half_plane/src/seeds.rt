@@ -9,8 +9,8 @@ use crate::by_miller::is_half;
 use crate::by_miller::other_seeds;
 use crate::by_temme::temme_seeds;
 use crate::ground::Ground;
-use complex::lost::magnitude;
 use complex::number::Complex;
+use machine::magnitude::magnitude;
 use recurrence::state::OverflowState;
 use refusal::refusal::Refusal;
 

@@ -6,34 +6,16 @@ use native.Mathlib.Nat.{zero-mul, mul-pos, lt-irrefl, zero-lt-suc}
 use native.Mathlib.Omega.{arith}
 use lib.IntN.{ℤ, pos}
 use lib.Dec.{T, eqb, eqb→eq}
-use lib.Ieee.{Float, nan, inf, fin, Format, binary64, up, down, add, mul, le, eq, ne, ofBits, toBits, nanBits, isNan, fits}
-use lib.Ieee.Bits.{ofBits-toBits, nanBits-is}
+use lib.Ieee.{Float, nan, inf, fin, Format, binary64, up, down, add, mul, le, eq, ne, ofBits, toBits, isNan, fits}
 use lib.Ieee.Fits.{up-pos, and-l}
 use lib.Ieee.Compare.{differs-from-itself}
 use lib.Ieee.Scale.{finite}
 use borrow.Author.Tests.{ne-eqb}
 use Rattle.laws.proofs.Value.{bare, finite-no-nan}
-use Rattle.laws.proofs.Bits.{infBits, ofBits-bare, toBits-bare, toBits-finite, bare-fits}
+use Rattle.laws.proofs.Bits.{infBits, toBits-bare, toBits-finite, bare-fits}
 use Rattle.laws.proofs.Order.{finite-between}
-use Rattle.roots.specs.Hypot.{rootAt, sumOfSquares, leastSum, greatestSum, larger, smaller, scaledHypot, magnitudeOf, infinite, fullHypot, hypotOf}
-
--- ---- the magnitude, by the pattern without the sign's bit
-bare-is : (x : Float) → bare x ≡ magnitudeOf x
-bare-is nan = refl
-bare-is (inf s) = refl
-bare-is (fin s m e) = refl
-
-pub magnitude-is : (x : Float) → T (fits binary64 x) → ofBits binary64 (toBits binary64 x % 2 ^ 63) ≡ magnitudeOf x
-magnitude-is x F = ofBits-bare (toBits binary64 x) ∙ ap bare (ofBits-toBits binary64 x F) ∙ bare-is x
-
-magnitude-number : (x : Float) → T (not (isNan x)) → T (not (isNan (magnitudeOf x)))
-unfolding isNan
-magnitude-number nan h = h
-magnitude-number (inf s) h = tt
-magnitude-number (fin s m e) h = tt
-
-pub magnitude-no-nan : (x : Float) → T (fits binary64 x) → T (not (isNan x)) → T (not (nanBits binary64 (toBits binary64 x % 2 ^ 63)))
-magnitude-no-nan x F h = subst (λ (b : Bool). T (not b)) (sym (nanBits-is binary64 (toBits binary64 x % 2 ^ 63) ∙ ap isNan (magnitude-is x F))) (magnitude-number x h)
+use Rattle.machine.specs.Magnitude.{magnitudeOf}
+use Rattle.roots.specs.Hypot.{rootAt, sumOfSquares, leastSum, greatestSum, larger, smaller, scaledHypot, infinite, fullHypot, hypotOf}
 
 -- ---- the infinities, by the pattern
 differs : (b : ℕ) → b < infBits → b ≡ infBits → ⊥

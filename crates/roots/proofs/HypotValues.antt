@@ -12,7 +12,8 @@ use Rattle.laws.proofs.Power.{unique}
 use Rattle.laws.proofs.Sign.{mul-neg-l, mul-neg-neg, add-comm-float}
 use Rattle.roots_tables.specs.Tables.{constants, slopes, bends}
 use Rattle.roots.specs.Seed.{quadratic, seedOf, twiceRoot}
-use Rattle.roots.specs.Hypot.{rootAt, sumOfSquares, leastSum, greatestSum, larger, smaller, scaledHypot, fullHypot, magnitudeOf, hypotOf}
+use Rattle.machine.specs.Magnitude.{magnitudeOf}
+use Rattle.roots.specs.Hypot.{rootAt, sumOfSquares, leastSum, greatestSum, larger, smaller, scaledHypot, fullHypot, hypotOf}
 
 -- ---- a zero part
 pub hypot-zero-left : (s : Bool) (y : Float) (e : ℤ) → hypotOf (fin s 0 e) y ≡ magnitudeOf y

@@ -3,6 +3,7 @@
 use Prim.Native.Nat.{ℕ, zero, suc, _+_, _*_, _/_, _%_, _^_}
 use mathlib.Core.Bool.{Bool, true, false, cond}
 use lib.Ieee.{Float, nan, inf, fin, binary64, add, mul, le, ofBits, toBits}
+use Rattle.machine.specs.Magnitude.{magnitudeOf}
 use Rattle.roots.specs.Seed.{twiceRoot}
 
 -- the root of the value of a pattern: the seed and one Heron step on the significand, times half of the even power of two that was taken
@@ -36,11 +37,6 @@ unfoldable pub fullHypot : Float → Float → Float
 fullHypot x y =
     let s = sumOfSquares x y in
     cond (le leastSum s) (cond (le s greatestSum) (rootAt (toBits binary64 s)) (scaledHypot smaller larger x y)) (scaledHypot larger smaller x y)
-
-abbrev pub magnitudeOf : Float → Float
-magnitudeOf nan = nan
-magnitudeOf (inf s) = inf false
-magnitudeOf (fin s m e) = fin false m e
 
 abbrev pub infinite : Float → Bool
 infinite nan = false

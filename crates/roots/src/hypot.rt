@@ -3,13 +3,13 @@
 // and one Heron step, so that sqrt's method does not enter. Promised: equal to its definition; the square is within one part in 2^40 of the
 // sum of the squares. Measured error 1.58 units in the last place.
 ghost use mathlib.Core.Path.{_≡_};
-ghost use mathlib.Core.Bool.{false, not, _&&_};
-ghost use lib.Dec.{T};
-ghost use lib.Ieee.{isNan, le};
-ghost use Rattle.roots.specs.Hypot.{rootAt, magnitudeOf, infinite, sumOfSquares, leastSum, greatestSum, scaledHypot, hypotOf};
+ghost use mathlib.Core.Bool.{false, _&&_};
+ghost use lib.Ieee.{le};
+ghost use Rattle.roots.specs.Hypot.{rootAt, infinite, sumOfSquares, leastSum, greatestSum, scaledHypot, hypotOf};
 use crate::seed::twice_root;
 use machine::bits::pattern;
 use machine::constants::not_a_number;
+use machine::magnitude::magnitude;
 
 fn root(u: u64) -> f64
     ensures { λ r. ⌜ r ≡ rootAt u ⌝ }
@@ -18,13 +18,6 @@ fn root(u: u64) -> f64
         * f64::from_bits(
             (u % 0x8000000000000000 / 0x0010000000000000 + 1021) / 2 * 0x0010000000000000,
         )
-}
-
-fn magnitude(x: f64) -> f64
-    requires { ⌜ T (not (isNan x)) ⌝ }
-    ensures { λ r. ⌜ r ≡ magnitudeOf x ⌝ }
-{
-    f64::from_bits(f64::to_bits(x) % 0x8000000000000000)
 }
 
 fn is_infinite(x: f64) -> bool

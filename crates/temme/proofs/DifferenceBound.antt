@@ -15,7 +15,7 @@ use Rattle.laws.proofs.Bound.{Up, Lo, up-of, up-test, lo-test, up-weaken, up-lo
 use Rattle.laws.proofs.First.{first, passed}
 use Rattle.laws.proofs.Sign.{mul-neg-neg}
 use Rattle.machine.specs.Constants.{tolerance}
-use Rattle.complex.specs.Lost.{magnitudeOf}
+use Rattle.machine.specs.Magnitude.{magnitudeOf}
 use Rattle.temme.specs.declared.difference.Partial.{Partial}
 use Rattle.temme.specs.Difference.{differenceCoefficients, fractionSquare, startSeries, withTerm, seriesOf, SeriesEnds}
 use Rattle.machine.specs.Small.{one}

@@ -7,7 +7,6 @@ use Rattle.gamma_ln.specs.GammaLn.{gammaLnOf}
 use Rattle.gamma_ln.proofs.AtOne.{log-gamma-at-one}
 use Rattle.exponential.specs.Exp.{expOf}
 use Rattle.exponential.proofs.ExpFacts.{exp-at-minus-zero}
-use Rattle.complex.specs.Lost.{magnitudeOf}
 use Rattle.temme.specs.declared.gammas.Gammas.{Gammas}
 use Rattle.temme.specs.Difference.{differenceOf}
 use Rattle.temme.specs.Gammas.{oneOverSinc, differenceQuotient, gammasOf}
@@ -18,7 +17,6 @@ one-plus : (s : Bool) → add binary64 one (zeroOf s) ≡ one
 unfolding ofBits add
 one-plus true = refl
 one-plus false = refl
-
 
 sinc-at-zero : (s : Bool) → oneOverSinc (zeroOf s) ≡ one
 unfolding oneOverSinc ofBits eq
@@ -38,7 +36,7 @@ unfolding ofBits add mul
 mean-at-zero = refl
 
 quotient-at-zero : (s : Bool) (w : Float) → differenceQuotient (zeroOf s) w one one ≡ differenceOf w
-unfolding differenceQuotient magnitudeOf ofBits neg le lt eq
+unfolding differenceQuotient ofBits le lt eq
 quotient-at-zero true w = refl
 quotient-at-zero false w = refl
 

@@ -11,7 +11,7 @@ use Rattle.laws.specs.Operators.{_⊕_, _⊗_}
 use Rattle.laws.specs.Run.{run}
 use Rattle.machine.specs.Constants.{tolerance}
 use Rattle.machine.specs.Small.{nothing, one}
-use Rattle.complex.specs.Lost.{magnitudeOf}
+use Rattle.machine.specs.Magnitude.{magnitudeOf}
 use Rattle.temme.specs.declared.difference.Partial.{Partial}
 
 -- ZBKNU's CC(1) to CC(8), the coefficients c(2), c(4) .. c(16) of 1/Γ in DLMF 5.7.1: 0.5772156649015329, -0.04200263503409524,

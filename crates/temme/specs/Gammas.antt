@@ -6,7 +6,7 @@ use Rattle.laws.specs.Operators.{_⊕_, _⊖_, _⊗_, _⊘_}
 use Rattle.machine.specs.Small.{nothing, half, one, two}
 use Rattle.exponential.specs.Exp.{expOf}
 use Rattle.circular.specs.SinPi.{sinPiOf}
-use Rattle.complex.specs.Lost.{magnitudeOf}
+use Rattle.machine.specs.Magnitude.{magnitudeOf}
 use Rattle.gamma_ln.specs.GammaLn.{gammaLnOf}
 use Rattle.temme.specs.Difference.{differenceOf}
 use Rattle.temme.specs.declared.gammas.Gammas.{Gammas}

@@ -4,8 +4,8 @@
 ghost use mathlib.Core.Path.{_≡_};
 ghost use Prim.Native.Nat.{_<_};
 ghost use Rattle.temme.specs.Difference.{fractionSquare, withTerm, seriesOf, differenceOf};
-use complex::lost::magnitude;
 use machine::constants::Machine;
+use machine::magnitude::magnitude;
 
 const COEFFICIENTS: [f64; 8] = [
     0.5772156649015329,

@@ -6,9 +6,9 @@ ghost use lib.Ieee.{binary64, ofBits, eq};
 ghost use Rattle.temme.specs.Gammas.{differenceQuotient, gammasOf};
 use crate::difference::difference;
 use circular::sin_pi::sin_pi;
-use complex::lost::magnitude;
 use exponential::exp::exp;
 use gamma_ln::gamma_ln::gamma_ln;
+use machine::magnitude::magnitude;
 
 // πν / sin πν, 1/Γ(1+ν), 1/Γ(1-ν), (1/Γ(1-ν) - 1/Γ(1+ν)) / 2ν, and (1/Γ(1-ν) + 1/Γ(1+ν)) / 2.
 pub struct Gammas {

@@ -1,6 +1,5 @@
 -- `angle::angle::angle` meets its contract: by the tests of a not-a-number and of the sign of y. Assumes nothing.
-use mathlib.Core.Path.{sym, _∙_, subst}
-use lib.Dec.{T}
+use mathlib.Core.Path.{sym, _∙_}
 use Rattle.angle.specs.Angle.{angleOf}
 use Rattle.machine.proofs.NotANumber.{equals-itself}
 use Rattle.angle.proofs.Tests.{not-a-number, number}
@@ -23,28 +22,56 @@ returns-2 : tie.Need-returns-2
 unfolding angleOf
 returns-2 c = simp (c .not-a-number2 .ensures, number _ (c .before .before .if1 .left), not-a-number _ (c .before .if2 .taken))
 
-without-sign-requires : tie.Need-without-sign-requires
-without-sign-requires c κs = equals-itself (c .before .before .args .y) (c .before .if1 .left)
+magnitude-requires : tie.Need-magnitude-requires
+magnitude-requires c κs = search needs
 
-without-sign-requires-2 : tie.Need-without-sign-requires-2
-without-sign-requires-2 c κs = equals-itself (c .before .before .before .args .x) (c .before .if2 .left)
+magnitude-requires-2 : tie.Need-magnitude-requires-2
+magnitude-requires-2 c κs = search needs
 
 is-negative-requires : tie.Need-is-negative-requires
 is-negative-requires c κs = equals-itself (c .before .before .before .before .args .x) (c .before .before .if2 .left)
 
 upper-requires : tie.Need-upper-requires
-upper-requires c κs = above-at (c .before .before .before .before .before .args .y) (c .before .before .before .before .before .args .x) (c .before .before .without-sign .result) (c .before .without-sign2 .result) (subst T (sym (c .before .before .before .before .before .good .0 .1)) tt) (subst T (sym (c .before .before .before .before .before .good .1 .0 .1)) tt) (equals-itself (c .before .before .before .before .before .args .y) (c .before .before .before .before .if1 .left)) (equals-itself (c .before .before .before .before .before .args .x) (c .before .before .before .if2 .left)) (c .before .before .without-sign .ensures) (c .before .without-sign2 .ensures)
+upper-requires c κs =
+    let d = c .before .before .before in
+    let y = d .before .before .args .y in
+    let x = d .before .before .args .x in
+    above-at y x (c .before .before .magnitude .result) (c .before .magnitude2 .result) (equals-itself y (d .before .if1 .left)) (equals-itself x (d .if2 .left))
+    (c .before .before .magnitude .ensures) (c .before .magnitude2 .ensures)
 
 is-negative-requires-2 : tie.Need-is-negative-requires-2
 is-negative-requires-2 c κs = equals-itself (c .before .before .before .before .before .before .args .y) (c .before .before .before .before .before .if1 .left)
 
+-- what the calls give, where neither part is a not-a-number
 returns-3 : tie.Need-returns-3
 unfolding angleOf
-returns-3 c = simp (c .before .before .upper .ensures, c .before .before .before .is-negative .ensures, c .before .before .before .before .without-sign2 .ensures, c .before .before .before .before .before .without-sign .ensures, number _ (c .before .before .before .before .before .before .before .if1 .left), number _ (c .before .before .before .before .before .before .if2 .left), sym (c .before .is-negative2 .ensures) ∙ c .if3 .taken)
+returns-3 c =
+    let d = c .before .before in
+    let e = d .before .before .before in
+    simp (
+      d .upper .ensures,
+      d .before .is-negative .ensures,
+      d .before .before .magnitude2 .ensures,
+      e .magnitude .ensures,
+      number _ (e .before .before .if1 .left),
+      number _ (e .before .if2 .left),
+      sym (c .before .is-negative2 .ensures) ∙ c .if3 .taken,
+    )
 
 returns-4 : tie.Need-returns-4
 unfolding angleOf
-returns-4 c = simp (c .before .before .upper .ensures, c .before .before .before .is-negative .ensures, c .before .before .before .before .without-sign2 .ensures, c .before .before .before .before .before .without-sign .ensures, number _ (c .before .before .before .before .before .before .before .if1 .left), number _ (c .before .before .before .before .before .before .if2 .left), sym (c .before .is-negative2 .ensures) ∙ c .if3 .left)
+returns-4 c =
+    let d = c .before .before in
+    let e = d .before .before .before in
+    simp (
+      d .upper .ensures,
+      d .before .is-negative .ensures,
+      d .before .before .magnitude2 .ensures,
+      e .magnitude .ensures,
+      number _ (e .before .before .if1 .left),
+      number _ (e .before .if2 .left),
+      sym (c .before .is-negative2 .ensures) ∙ c .if3 .left,
+    )
 
 pub angle-spec : {M : Type 1} → statement M
 angle-spec =
@@ -54,8 +81,8 @@ angle-spec =
     returns
     not-a-number-requires-2
     returns-2
-    without-sign-requires
-    without-sign-requires-2
+    magnitude-requires
+    magnitude-requires-2
     is-negative-requires
     upper-requires
     is-negative-requires-2

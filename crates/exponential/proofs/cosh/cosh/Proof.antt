@@ -7,7 +7,8 @@ use lib.Ieee.{binary64, fits, isNan}
 use lib.Ieee.Compare.{differs-from-itself}
 use Rattle.machine.proofs.NotANumber.{equals-itself}
 use Rattle.exponential.specs.Cosh.{coshMagnitude, coshOf}
-use Rattle.exponential.proofs.Signs.{magnitude-by-bits, magnitude-no-nan, cosh-by-magnitude}
+use Rattle.machine.proofs.MagnitudeFacts.{magnitude-no-nan}
+use Rattle.exponential.proofs.Signs.{magnitude-by-bits, cosh-by-magnitude}
 use Rattle.exponential.proofs.cosh.cosh.Statement.{statement}
 use Rattle.exponential.proofs.cosh.cosh.Tie as tie
 

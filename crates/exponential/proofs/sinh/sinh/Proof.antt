@@ -7,7 +7,8 @@ use lib.Ieee.{binary64, neg, fits, isNan}
 use lib.Ieee.Compare.{differs-from-itself}
 use Rattle.machine.proofs.NotANumber.{equals-itself}
 use Rattle.exponential.specs.Sinh.{sinhMagnitude, sinhOf}
-use Rattle.exponential.proofs.Signs.{magnitude-by-bits, magnitude-no-nan, sign-set, sign-clear, sinh-by-sign}
+use Rattle.machine.proofs.MagnitudeFacts.{magnitude-no-nan}
+use Rattle.exponential.proofs.Signs.{magnitude-by-bits, sign-set, sign-clear, sinh-by-sign}
 use Rattle.exponential.proofs.sinh.sinh.Statement.{statement}
 use Rattle.exponential.proofs.sinh.sinh.Tie as tie
 

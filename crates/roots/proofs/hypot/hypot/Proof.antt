@@ -15,14 +15,14 @@ unfolding sumOfSquares leastSum greatestSum
 inside c = within-range (c .before .before .args .x) (c .before .before .args .y) (subst T (sym (c .before .if1 .taken)) tt) (subst T (sym (c .if2 .taken)) tt)
 
 magnitude-requires : tie.Need-magnitude-requires
-magnitude-requires c κs = finite-no-nan _ (inside (c .before) .2)
+magnitude-requires c κs = search needs
 
 returns : tie.Need-returns
 unfolding ofBits
 returns c = let i = inside (c .before .before) in c .magnitude .ensures ∙ sym (zero-left _ _ (i .1) (i .2) (c .before .if3 .taken))
 
 magnitude-requires-2 : tie.Need-magnitude-requires-2
-magnitude-requires-2 c κs = finite-no-nan _ (inside (c .before .before) .1)
+magnitude-requires-2 c κs = search needs
 
 returns-2 : tie.Need-returns-2
 unfolding ofBits

@@ -6,7 +6,6 @@ use lib.Ieee.{ofBits, div}
 use lib.Ieee.Scale.{finite}
 use borrow.Author.Needs.{needs}
 use Rattle.machine.proofs.NotANumber.{equals-itself}
-use Rattle.laws.proofs.Value.{finite-no-nan}
 use Rattle.roots.specs.Hypot.{sumOfSquares, leastSum, larger, smaller, infinite, fullHypot, hypotOf}
 use Rattle.roots.proofs.HypotCases.{infinite-left, infinite-right, nan-left, nan-right, finite-of, zero-left, zero-right, full, full-above, full-below}
 use Rattle.roots.proofs.hypot.outside.Statement.{statement}
@@ -58,14 +57,14 @@ returns-4 : tie.Need-returns-4
 returns-4 c = c .not-a-number2 .ensures ∙ sym (nan-right _ _ (c .before .if4 .taken) (finite-parts (c .before .before .before) .0))
 
 magnitude-requires : tie.Need-magnitude-requires
-magnitude-requires c κs = finite-no-nan _ (number-parts (c .before) .1)
+magnitude-requires c κs = search needs
 
 returns-5 : tie.Need-returns-5
 unfolding ofBits
 returns-5 c = let p = number-parts (c .before .before) in c .magnitude .ensures ∙ sym (zero-left _ _ (p .0) (p .1) (c .before .if5 .taken))
 
 magnitude-requires-2 : tie.Need-magnitude-requires-2
-magnitude-requires-2 c κs = finite-no-nan _ (number-parts (c .before .before) .0)
+magnitude-requires-2 c κs = search needs
 
 returns-6 : tie.Need-returns-6
 unfolding ofBits

@@ -1,4 +1,4 @@
--- A magnitude above a number above zero, by two comparisons of the value itself; so the test of two parts, by four. Assumes nothing.
+-- A magnitude above a number above zero, by two comparisons of the value itself. Assumes nothing.
 use mathlib.Core.Path.{_≡_, refl, sym, ap, _∙_}
 use mathlib.Core.Bool.{Bool, true, false, _||_, cond}
 use Prim.Native.Nat.{ℕ, _+_, _*_, _<_, _≤_}
@@ -8,9 +8,7 @@ use borrow.Author.Tests.{ltb-true, ltb-false, le-ltb}
 use lib.Dec.{T, ltb}
 use lib.IntN.{ℤ, pos}
 use lib.Ieee.{Float, nan, inf, fin, binary64, ofBits, up, down, neg, lt}
-use Rattle.complex.specs.declared.number.Complex.{Complex}
 use Rattle.complex.specs.Lost.{magnitudeOf}
-use Rattle.recurrence.specs.Rung.{exceeds}
 
 or-false : (b : Bool) → b ≡ b || false
 or-false true = refl
@@ -52,7 +50,3 @@ above-magnitude (fin false k d) (fin false m e) h = either (lt (fin false m e) (
         never : (a n : ℕ) → n ≡ 0 → ltb a n ≡ true → ⊥
         never a n z t = let l : a < n = ltb-true a n t in omega arith
     either false g = or-false (ltb (k * up d * down e) (m * up e * down d))
-
-pub exceeds-by-four : (b : Float) (w : Complex) → T (lt (ofBits binary64 0) b) → exceeds b w ≡ (lt b (w .re) || lt (w .re) (neg b)) || (lt b (w .im) || lt (w .im) (neg b))
-unfolding exceeds
-exceeds-by-four b w h = rw (above-magnitude b (w .re) h, above-magnitude b (w .im) h)

@@ -78,7 +78,7 @@ abbrev one-and-nought : Outcome
 one-and-nought = record { answer = answeredOf (pos 0) 0 0 0; cells = ofBits binary64 0x3FF0000000000000 ∷ nought ∷ nought ∷ nought ∷ [] }
 
 visited : concludedOf 4 (visitSteps (visitedBy false false origin 4)) ≡ one-and-nought
-unfolding concludedOf visitSteps visitedBy visitAnswer judgedOf judgedIf allFinite powerSeriesOf powerSeriesIf tinyOf lowestOf zerosOf orderPlusOne orderAt magnitudeOf underflowLimit ofBits ofInt round size neg add mul eq le lt
+unfolding concludedOf visitSteps visitedBy visitAnswer judgedOf judgedIf allFinite powerSeriesOf powerSeriesIf tinyOf lowestOf zerosOf orderPlusOne orderAt underflowLimit ofBits ofInt round size neg add mul eq le lt
 visited = refl
 
 first-called : calledOf asking 4 ≡ one-and-nought

@@ -4,7 +4,7 @@ ghost use mathlib.Core.Path.{_≡_};
 ghost use Rattle.complex.specs.Lost.{lostBeside, lostOf};
 use crate::number::Complex;
 use machine::constants::Machine;
-pub use machine::magnitude::magnitude;
+use machine::magnitude::magnitude;
 
 fn lost_beside(smaller: f64, larger: f64) -> bool
     ensures { λ r. ⌜ r ≡ lostBeside smaller larger ⌝ }

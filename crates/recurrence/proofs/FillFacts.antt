@@ -18,14 +18,15 @@ use Rattle.recurrence.specs.State.{reciprocalOf}
 use Rattle.recurrence.specs.Rung.{rungOf}
 use Rattle.recurrence.specs.Climb.{never, climbFrom}
 use Rattle.recurrence.specs.Fill.{Filled, fillStep, fillFrom}
-use Rattle.recurrence.specs.shapes.Stretch.{Partway, PartFilled, Belongs, putIf, Written, Stays}
+use Rattle.recurrence.specs.shapes.Course.{Belongs, Stays}
+use Rattle.recurrence.specs.shapes.Stretch.{Partway, PartFilled, putIf, Written}
 use Rattle.recurrence.specs.declared.state.Climb.{Climb}
 use Rattle.recurrence.specs.declared.state.Rung.{Rung}
 use Rattle.recurrence.specs.declared.held.Held.{Held}
-use Rattle.recurrence.specs.declared.fill.Course.{Course}
-use Rattle.recurrence.specs.declared.fill.Turn.{Turn}
+use Rattle.recurrence.specs.declared.course.Course.{Course}
+use Rattle.recurrence.specs.declared.course.Turn.{Turn}
 use Rattle.recurrence.proofs.ClimbFacts.{plain-last, climb-out, climb-last, climb-again, rung-counted}
-use Rattle.recurrence.proofs.StretchFacts.{held-rung, partway-start, partway-rung, partway-again, partway-whole}
+use Rattle.recurrence.proofs.StretchFacts.{held, held-rung, partway-start, partway-rung, partway-again, partway-whole}
 
 -- a seam, and another from there on
 seam-again : {A : Type 0} {d p out out' : List A} {n m : ℕ} (q : List A) → n ≤ m → Seam d p n out → Seam out (take n out ++ q) m out' → Seam d (p ++ q) m out'
@@ -222,11 +223,7 @@ module _ (g : Course) (start : Climb) (from place : ℕ) (before : List Float) w
       writing-rung (g .«two_over_z») (g .«base_order») j at' out'
       (record { climb = record { older = c .newer; newer = a .value; state = c .state; rungs = n }; entry = timesReal (a .value) (reciprocalOf (c .state)); moved = false }) u v h r
       (held-rung (g .«two_over_z») (g .«base_order») i n c a l (b .most) (w .held) k)
-      (w .put ∙ ap (λ (t : Bool). putIf t (timesReal (a .value) (g .back)) at out) (kept (a .kept) k) ∙ ap (λ (f : Float). putIf true (timesReal (a .value) f) at out) (b .back))
-    where
-      kept : (t : Bool) → not t ≡ false → t ≡ true
-      kept true e = refl
-      kept false e = absurd (true≢false e)
+      (w .put ∙ ap (λ (t : Bool). putIf t (timesReal (a .value) (g .back)) at out) (held (a .kept) k) ∙ ap (λ (f : Float). putIf true (timesReal (a .value) f) at out) (b .back))
 
   pub turn-stop : {i at : ℕ} {c : Climb} {out : List Float} (out' : List Float) (a : Held) → not (a .kept) ≡ true → Written g i (c .older) (c .newer) a at out out' → Turning i c at out → Turning i c at out'
   turn-stop {i} {at} {c} {out} out' a k w s = subst (Turning i c at) (sym (w .put ∙ ap (λ (t : Bool). putIf t (timesReal (a .value) (g .back)) at out) (left (a .kept) k))) s

@@ -1,5 +1,5 @@
 -- What a rung is where its value was held: the state stays. Part of a climb: its start, one rung more, two parts in a row, the whole. Assumes nothing.
-use mathlib.Core.Path.{_≡_, refl, sym, ap, _∙_}
+use mathlib.Core.Path.{_≡_, refl, sym, ap, _∙_, subst}
 use mathlib.Core.Bool.{Bool, true, false, true≢false, not, cond}
 use Prim.Native.Nat.{ℕ, _+_, _-_, _≤_, _<_}
 use native.Mathlib.Nat.{le-refl}
@@ -12,13 +12,22 @@ use Rattle.machine.specs.Magnitude.{magnitudeOf}
 use Rattle.recurrence.specs.State.{reciprocalOf, limitOf}
 use Rattle.recurrence.specs.Rung.{factorOf, nextOf, exceeds, passes, rungOf}
 use Rattle.recurrence.specs.Climb.{climbFrom}
-use Rattle.recurrence.specs.shapes.Stretch.{notHeld, heldOf, Partway}
+use Rattle.recurrence.specs.shapes.Held.{notHeld, heldOf}
+use Rattle.recurrence.specs.shapes.Course.{Belongs, Stays}
+use Rattle.recurrence.specs.shapes.Stretch.{Partway}
 use Rattle.recurrence.specs.declared.state.Climb.{Climb}
 use Rattle.recurrence.specs.declared.state.Rung.{Rung}
 use Rattle.recurrence.specs.declared.held.Held.{Held}
+use Rattle.recurrence.specs.declared.course.Course.{Course}
+use Rattle.recurrence.specs.declared.course.Turn.{Turn}
 use Rattle.recurrence.proofs.ClimbFacts.{climb-out, climb-last, climb-again, rung-counted}
 use Rattle.recurrence.proofs.LimitFacts.{limit-stays}
 use Rattle.recurrence.proofs.RungFacts.{stays}
+
+-- a test that was not turned
+pub held : (b : Bool) → not b ≡ false → b ≡ true
+held true e = refl
+held false e = absurd (true≢false e)
 
 -- a value that was held is the next one, and is not above the limit
 held-value : (limit : Float) (next : Complex) (a : Held) → a ≡ heldOf limit next → not (a .kept) ≡ false → (a .value ≡ next) × (exceeds limit next ≡ false)
@@ -140,3 +149,34 @@ module _ (twoOverZ : Complex) (baseOrder : Float) where
       let u = p .inside in
       let l : c .rungs - start .rungs ≡ to - from = omega arith in
       p .climbed ∙ ap (λ (k : ℕ). climbFrom twoOverZ baseOrder from k start) l
+
+-- ---- a turn of three rungs: one rung of it, two, three
+module _ (g : Course) (start : Climb) (from : ℕ) where
+  abbrev pub Turning : ℕ → Climb → Type 0
+  Turning i c = Standing (g .«two_over_z») (g .«base_order») from (from + 3) start i c
+
+  abbrev pub Next : ℕ → Complex → Complex → Held → Type 0
+  Next i older newer a = a ≡ heldOf (g .most) (nextOf (factorOf (g .«two_over_z») (g .«base_order») i) older newer)
+
+  pub turn-start : Turning from start
+  turn-start = standing-start (g .«two_over_z») (g .«base_order») from (from + 3) start
+
+  module _ (b : Belongs g (start .state)) where
+    pub turn-one : (a₁ : Held) → not (a₁ .kept) ≡ false → Next from (start .older) (start .newer) a₁
+        → Turning (from + 1) (record { older = start .newer; newer = a₁ .value; state = start .state; rungs = start .rungs + 1 })
+    turn-one a₁ k₁ e₁ = standing-held (g .«two_over_z») (g .«base_order») (from + 1) (start .rungs + 1) a₁ refl refl (omega arith) (b .most) e₁ k₁ turn-start
+
+    pub turn-two : (a₁ a₂ : Held) → not (a₁ .kept) ≡ false → Next from (start .older) (start .newer) a₁ → not (a₂ .kept) ≡ false → Next (from + 1) (start .newer) (a₁ .value) a₂
+        → Turning (from + 2) (record { older = a₁ .value; newer = a₂ .value; state = start .state; rungs = start .rungs + 2 })
+    turn-two a₁ a₂ k₁ e₁ k₂ e₂ = standing-held (g .«two_over_z») (g .«base_order») (from + 2) (start .rungs + 2) a₂ (omega arith) (omega arith) (omega arith) (b .most) e₂ k₂ (turn-one a₁ k₁ e₁)
+
+    pub turn-three : (a₁ a₂ a₃ : Held) → not (a₁ .kept) ≡ false → Next from (start .older) (start .newer) a₁ → not (a₂ .kept) ≡ false → Next (from + 1) (start .newer) (a₁ .value) a₂
+        → not (a₃ .kept) ≡ false → Next (from + 2) (a₁ .value) (a₂ .value) a₃
+        → Turning (from + 3) (record { older = a₂ .value; newer = a₃ .value; state = start .state; rungs = start .rungs + 3 })
+    turn-three a₁ a₂ a₃ k₁ e₁ k₂ e₂ k₃ e₃ = standing-held (g .«two_over_z») (g .«base_order») (from + 3) (start .rungs + 3) a₃ (omega arith) (omega arith) (omega arith) (b .most) e₃ k₃ (turn-two a₁ a₂ k₁ e₁ k₂ e₂)
+
+  -- what a turn gives back
+  pub turn-ends : {i : ℕ} {c : Climb} {whole : Bool} (t : Turn) → t ≡ record { climb = c; whole = whole } → c .state ≡ start .state → (whole ≡ true → c .rungs ≡ start .rungs + 3) → Turning i c
+      → Partway (g .«two_over_z») (g .«base_order») from (from + 3) start (t .climb) × Stays start t
+  turn-ends {i} {c} {whole} t e p q s =
+      subst (λ (r : Turn). Partway (g .«two_over_z») (g .«base_order») from (from + 3) start (r .climb) × Stays start r) (sym e) (s .part, record { state = p; three = q })

@@ -1,17 +1,55 @@
 // The plain climb: rung after rung, from one index up to another. From src/amos/recurrence.rs, run_recurrence_core with nothing to write.
-// Promised: climbFrom of specs/Climb.antt; as many rungs are counted as are climbed (proofs/ClimbFacts.antt). Where the state of scale stays,
-// three rungs are climbed a turn, so that three pairs of values take turns and none is copied.
+// Promised: climbFrom of specs/Climb.antt; as many rungs are counted as are climbed (proofs/ClimbFacts.antt).
 ghost use mathlib.Core.Path.{_≡_};
 ghost use Prim.Native.Nat.{_+_, _-_, _<_, _≤_, _^_};
 ghost use Rattle.recurrence.specs.Climb.{climbFrom};
+ghost use Rattle.recurrence.specs.shapes.Course.{Belongs, Suits, Stays};
 ghost use Rattle.recurrence.specs.shapes.Stretch.{Partway};
+use crate::course::Course;
+use crate::course::Turn;
+use crate::course::stopped;
 use crate::held::factor_re;
 use crate::held::next_held;
 use crate::rung::rung;
 use crate::state::Climb;
 use crate::state::limit;
 use crate::state::reached;
+use crate::state::reciprocal;
 use complex::number::Complex;
+
+// Three rungs on which the state stays, or those of them before one that may move. The first factor's real part is handed in.
+fn three_rungs(g: Course, p: f64, i: u32, start: Climb) -> Turn
+    requires { ⌜ Suits g p i
+        × Belongs g (start .state)
+        × (i + 3 < 2 ^ 32)
+        × (start .rungs + 3 < 2 ^ 32) ⌝ }
+    ensures { λ r. ⌜ Partway (g .«two_over_z») (g .«base_order») i (i + 3) start (r .climb) × Stays start r ⌝ }
+{
+    let state = start.state;
+    let older = start.older;
+    let newer = start.newer;
+    let q = factor_re(g.two_over_z, g.base_order, i + 1);
+    let a = next_held(g.most, p, g.two_over_z, g.base_order, i, older, newer);
+    let first = a.value;
+    if !a.kept {
+        return stopped(older, newer, state, start.rungs);
+    }
+    let r = factor_re(g.two_over_z, g.base_order, i + 2);
+    let b = next_held(g.most, q, g.two_over_z, g.base_order, i + 1, newer, first);
+    let second = b.value;
+    if !b.kept {
+        return stopped(newer, first, state, start.rungs + 1);
+    }
+    let c = next_held(g.most, r, g.two_over_z, g.base_order, i + 2, first, second);
+    let third = c.value;
+    if !c.kept {
+        return stopped(first, second, state, start.rungs + 2);
+    }
+    Turn {
+        climb: reached(second, third, state, start.rungs + 3),
+        whole: true,
+    }
+}
 
 // Rungs on which the state stays, three a turn: it stops before one that may move, and where less than three are left.
 fn stretch(two_over_z: Complex, base_order: f64, from: u32, to: u32, start: Climb) -> Climb
@@ -19,39 +57,27 @@ fn stretch(two_over_z: Complex, base_order: f64, from: u32, to: u32, start: Clim
     ensures { λ r. ⌜ Partway «two_over_z» «base_order» from to start r ⌝ }
 {
     let state = start.state;
-    let most = limit(state);
-    let mut older = start.older;
-    let mut newer = start.newer;
-    let mut rungs = start.rungs;
+    let g = Course {
+        two_over_z,
+        base_order,
+        most: limit(state),
+        back: reciprocal(state),
+    };
+    let mut c = start;
     let mut i = from;
     while i < to {
         let p = factor_re(two_over_z, base_order, i);
         if to - i < 3 {
-            return reached(older, newer, state, rungs);
+            return c;
         }
-        let q = factor_re(two_over_z, base_order, i + 1);
-        let a = next_held(most, p, two_over_z, base_order, i, older, newer);
-        let first = a.value;
-        if !a.kept {
-            return reached(older, newer, state, rungs);
+        let t = three_rungs(g, p, i, c);
+        c = t.climb;
+        if !t.whole {
+            return c;
         }
-        let r = factor_re(two_over_z, base_order, i + 2);
-        let b = next_held(most, q, two_over_z, base_order, i + 1, newer, first);
-        let second = b.value;
-        if !b.kept {
-            return reached(newer, first, state, rungs + 1);
-        }
-        let c = next_held(most, r, two_over_z, base_order, i + 2, first, second);
-        let third = c.value;
-        if !c.kept {
-            return reached(first, second, state, rungs + 2);
-        }
-        older = second;
-        newer = third;
-        rungs += 3;
         i += 3;
     }
-    reached(older, newer, state, rungs)
+    c
 }
 
 // a stretch, and the rung after it

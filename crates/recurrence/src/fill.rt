@@ -1,37 +1,24 @@
 // The climb that fills a buffer: each rung's entry off the scale goes into the lent cells, its real part first.
 // From src/amos/recurrence.rs, run_recurrence_core with the output slice.
-// Promised: fillFrom of specs/Fill.antt, the climb and all the cells. Where the state of scale stays, three rungs are climbed a turn, so that
-// three pairs of values take turns and none is copied.
+// Promised: fillFrom of specs/Fill.antt, the climb and all the cells.
 ghost use mathlib.Core.Path.{_≡_};
-ghost use mathlib.Core.Bool.{false};
 ghost use Prim.Native.Nat.{_+_, _-_, _/_, _%_, _≤_, _<_, _^_};
 ghost use lib.ListN.{length, set};
 ghost use Rattle.recurrence.specs.Fill.{fillFrom};
-ghost use Rattle.recurrence.specs.shapes.Stretch.{PartFilled, Belongs, Suits, Written, Stays};
+ghost use Rattle.recurrence.specs.shapes.Course.{Belongs, Suits, Stays};
+ghost use Rattle.recurrence.specs.shapes.Stretch.{PartFilled, Written};
+use crate::course::Course;
+use crate::course::Turn;
+use crate::course::stopped;
 use crate::held::Held;
 use crate::held::factor_re;
 use crate::held::next_held;
 use crate::rung::rung;
 use crate::state::Climb;
-use crate::state::OverflowState;
 use crate::state::limit;
 use crate::state::reached;
 use crate::state::reciprocal;
 use complex::number::Complex;
-
-// What every rung of a stretch takes: 2/z, the base order, and of the state its limit and its reciprocal.
-struct Course {
-    two_over_z: Complex,
-    base_order: f64,
-    most: f64,
-    back: f64,
-}
-
-// the climb after a turn, and whether it has all three rungs
-struct Turn {
-    climb: Climb,
-    whole: bool,
-}
 
 fn put(w: Complex, out: &mut [f64], at: usize)
     requires { ⌜ at + 1 < length (now out) ⌝ }
@@ -61,15 +48,6 @@ fn written(
         return a;
     }
     a
-}
-
-fn stopped(older: Complex, newer: Complex, state: OverflowState, rungs: u32) -> Turn
-    ensures { λ r. ⌜ r ≡ record { climb = record { older = older; newer = newer; state = state; rungs = rungs }; whole = false } ⌝ }
-{
-    Turn {
-        climb: reached(older, newer, state, rungs),
-        whole: false,
-    }
 }
 
 // Three rungs on which the state stays, or those of them before one that may move. The first factor's real part is handed in.
@@ -126,13 +104,11 @@ fn stretch(
         place (now (out .entry)) r (now (out .exit)) ⌝ }
 {
     let state = start.state;
-    let most = limit(state);
-    let back = reciprocal(state);
     let g = Course {
         two_over_z,
         base_order,
-        most,
-        back,
+        most: limit(state),
+        back: reciprocal(state),
     };
     let mut c = start;
     let mut i = from;

@@ -1,11 +1,11 @@
 // The next order's value where the state of scale stays, for the loops of a climb. From src/amos/recurrence.rs, run_recurrence_core.
-// Promised: heldOf of specs/shapes/Stretch.antt. The real part is tested before the imaginary part is formed, and the real part of the factor is
+// Promised: heldOf of specs/shapes/Held.antt. The real part is tested before the imaginary part is formed, and the real part of the factor is
 // formed by the caller, one rung ahead: so the compiler pairs neither, which would put shuffles between one rung and the next.
 ghost use mathlib.Core.Path.{_≡_};
 ghost use lib.Dec.{T};
 ghost use lib.Ieee.{binary64, ofBits, lt};
 ghost use Rattle.recurrence.specs.Rung.{factorOf, nextOf};
-ghost use Rattle.recurrence.specs.shapes.Stretch.{notHeld, heldOf};
+ghost use Rattle.recurrence.specs.shapes.Held.{notHeld, heldOf};
 use crate::rung::outside;
 use complex::number::Complex;
 use complex::number::zero_pair;

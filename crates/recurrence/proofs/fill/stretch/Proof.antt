@@ -1,7 +1,6 @@
 -- `recurrence::fill::stretch` meets its contract: turn after turn, on the state of its start. Assumes nothing.
 use borrow.Author.Needs.{needs}
 use mathlib.Core.Path.{_≡_, refl, sym, ap, _∙_, subst}
-use mathlib.Core.Bool.{Bool, true, false, true≢false, not}
 use Prim.Native.Nat.{ℕ, _+_, _-_, _*_, _/_, _≤_, _<_}
 use native.Mathlib.Omega.{arith}
 use lib.Dec.{T}
@@ -11,13 +10,10 @@ use Rattle.recurrence.specs.State.{reciprocalOf, limitOf}
 use Rattle.recurrence.specs.shapes.Stretch.{PartFilled}
 use Rattle.recurrence.specs.declared.state.OverflowState.{OverflowState}
 use Rattle.recurrence.proofs.LimitFacts.{limit-positive}
+use Rattle.recurrence.proofs.StretchFacts.{held}
 use Rattle.recurrence.proofs.FillFacts.{filled-start, filled-again, filled-length}
 use Rattle.recurrence.proofs.fill.stretch.Statement.{statement}
 use Rattle.recurrence.proofs.fill.stretch.Tie as tie
-
-by : (b : Bool) → not b ≡ false → b ≡ true
-by true e = refl
-by false e = absurd (true≢false e)
 
 -- three rungs more than c, which is after c₀
 rungs : (c₀ c d : ℕ) → c₀ ≤ c → d ≡ c + 3 → c₀ ≤ d
@@ -33,7 +29,7 @@ room : (at l m : ℕ) → 6 ≤ l - at → l ≡ m → at + 6 ≤ m
 room at l m h e = omega arith
 
 abbrev Inv-loop : tie.InvT-loop
-Inv-loop two-over-z base-order from out₀ place most back g c₀ i₀ at₀ out c i at =
+Inv-loop two-over-z base-order from out₀ place g c₀ i₀ at₀ out c i at =
     (c₀ .rungs ≤ c .rungs)
     × (i ≡ from + (c .rungs - c₀ .rungs))
     × (at ≡ place + (c .rungs - c₀ .rungs) * 2)
@@ -43,7 +39,7 @@ Inv-loop two-over-z base-order from out₀ place most back g c₀ i₀ at₀ out
     × PartFilled two-over-z base-order from (from + (length out₀ - place) / 2) c₀ place out₀ c out
 
 abbrev μ-loop : tie.MeasureT-loop
-μ-loop two-over-z base-order from out₀ place most back g c₀ i₀ at₀ out c i at = length out₀ - at
+μ-loop two-over-z base-order from out₀ place g c₀ i₀ at₀ out c i at = length out₀ - at
 
 limit-requires : tie.Need-limit-requires Inv-loop μ-loop
 limit-requires c κs = search needs
@@ -129,7 +125,7 @@ loop-again c =
     let v = l .loop .inv in
     let t = e .if1 .left in
     let q = r .three-rungs .ensures .1 in
-    let n = q .three (by (r .three-rungs .result .whole) (c .if2 .left)) in
+    let n = q .three (held (r .three-rungs .result .whole) (c .if2 .left)) in
     let j = filled-length _ _ (r .three-rungs .ensures .0) in
     (rungs _ _ _ (v .0) n, index _ _ _ _ _ (v .0) n (v .1), cells _ _ _ _ _ (v .0) n (v .2), room _ _ _ t (v .4), j ∙ v .4, q .state ∙ v .5, filled-again _ _ (l .loop .i) (l .loop .at) (v .1) (v .2) (omega arith) (v .6) (r .three-rungs .ensures .0))
 

@@ -7,7 +7,7 @@ use Rattle.laws.specs.Operators.{_⊕_, _⊗_}
 use Rattle.complex.specs.declared.number.Complex.{Complex}
 use Rattle.complex.specs.Arithmetic.{timesReal}
 use Rattle.recurrence.specs.Rung.{factorOf, nextOf}
-use Rattle.recurrence.specs.shapes.Stretch.{heldOf}
+use Rattle.recurrence.specs.shapes.Held.{heldOf}
 use Rattle.recurrence.proofs.StretchFacts.{not-held-re, not-held-im, held-parts}
 use Rattle.recurrence.proofs.held.next_held.Statement.{statement}
 use Rattle.recurrence.proofs.held.next_held.Tie as tie

@@ -1,7 +1,7 @@
--- `recurrence::fill::stopped` meets its contract. Assumes nothing.
+-- `recurrence::course::stopped` meets its contract. Assumes nothing.
 use borrow.Author.Needs.{needs}
-use Rattle.recurrence.proofs.fill.stopped.Statement.{statement}
-use Rattle.recurrence.proofs.fill.stopped.Tie as tie
+use Rattle.recurrence.proofs.course.stopped.Statement.{statement}
+use Rattle.recurrence.proofs.course.stopped.Tie as tie
 
 reached-requires : tie.Need-reached-requires
 reached-requires c κs = search needs

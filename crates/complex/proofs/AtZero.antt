@@ -64,7 +64,7 @@ module _ (s t : Bool) where
   abbrev zero : Complex
   zero = record { re = zeroOf s; im = zeroOf t }
 
-  exp-zeros : complexExpOf zero ≡ record { re = one; im = zeroOf t }
+  pub exp-zeros : complexExpOf zero ≡ record { re = one; im = zeroOf t }
   unfolding complexExpOf polarOf
   exp-zeros = rw (exp-zero s, cosine t, sine t, one-one, one-nought t)
 

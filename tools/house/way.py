@@ -7,7 +7,8 @@ way.py --check PAGE        fails where a block of PAGE is not what --write would
 
 A way begins at the frame program. What a frame may meet is every call that stands in a body, but for the arms of a match that belong to the
 other kind, and for the other kind's entry point. A function is counted once and opened where it is met first. It is as deep as the longest
-chain of calls that leads to it, or, in a run, as the deepest one seen; the first function is 1 deep. The line begins where it is read.
+chain of calls that leads to it, or, in a run, as the deepest one seen; the first function is 1 deep. The line begins with what the
+program calls outside its own crate.
 
 A block of a page stands between fences behind a mark. <!-- way K FUNCTION.. --> holds what the run of the K frame meets from these functions
 on, each named by the end of its path, enough to tell it; what has a block of its own, or stands above, is named and not opened.
@@ -21,8 +22,6 @@ from run import calls_of
 from sources import TOP
 
 PROGRAM = "lichenoar::main"
-# where the line begins: read and answered in one, or, of a frame that stands whole in a piece of the input, read and then answered
-LINE = ["answering::line::answer_line", "frame::asking::parse", "answering::called::answer_asking"]
 ENTRY = {"K": "bessel::k::k", "I": "bessel::i::i"}
 FRAME = {"K": "0100000200000000000000003FF00000000000000000000000000000", "I": "0200000200000000000000003FF00000000000000000000000000000"}
 
@@ -49,9 +48,13 @@ class Way:
                 for g in set(calls(f)) & set(self.functions[n:]):
                     self.depth[g] = max(self.depth.get(g, 0), self.depth[f] + 1)
 
-    def totals(self, line):
-        """From the first function on, and from the functions of the line on."""
-        below = [f for f in line if f in self.depth]
+    def totals(self):
+        """From the first function on, and from the line on: from what the program calls outside its own crate."""
+        own = self.start.module.crate
+        below = []
+        for f in self.functions:
+            if f.module.crate == own:
+                below += [g for g in self.calls(f) if g.module.crate != own and g not in below]
         first = min(self.depth[f] for f in below)
         for f in below:
             below += [g for g in self.calls(f) if g not in below]
@@ -104,7 +107,6 @@ class Ways:
     def __init__(self, run):
         self.house = house = House()
         self.start = house.at[PROGRAM]
-        self.line = [house.at[path] for path in LINE]
         self.may, self.met = {}, {}
         for kind in ENTRY:
             others = {other: house.at[path] for other, path in ENTRY.items() if other != kind}
@@ -130,7 +132,7 @@ class Ways:
         return Way(f"{kind}, what the frame {FRAME[kind]} meets", self.start, lambda f: below.get(f, []), depth)
 
     def totals(self):
-        return "\n".join(way.totals(self.line) for way in [*self.met.values(), *self.may.values()])
+        return "\n".join(way.totals() for way in [*self.met.values(), *self.may.values()])
 
     def page(self, text):
         """The page with every block written anew."""
@@ -187,7 +189,7 @@ def main(words):
         sys.exit(__doc__)
     ways = Ways(run="--run" in words)
     for way in (ways.met or ways.may).values():
-        print(way.totals(ways.line) + ("" if "--summary" in words else "\n\n" + listing(way, way.rows([way.start], set())) + "\n"))
+        print(way.totals() + ("" if "--summary" in words else "\n\n" + listing(way, way.rows([way.start], set())) + "\n"))
     return 0
 
 

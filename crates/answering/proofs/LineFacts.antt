@@ -1,4 +1,5 @@
--- The answer line from its parts: by what was parsed, how long it is, into lent bytes, and from the first 57 bytes of a line alone. Assumes nothing.
+-- The answer line from its parts: by what was parsed, how long it is, into lent bytes, and from the first 57 bytes of a line alone.
+-- Assumes nothing.
 use mathlib.Core.Path.{_≡_, refl, sym, ap, _∙_}
 use mathlib.Core.Bool.{Bool, true, false}
 use mathlib.Core.List.{List}
@@ -14,12 +15,15 @@ use Rattle.call.specs.declared.kind.Kind.the-variants.{K, I}
 use Rattle.call.specs.Answer.{refusedOf}
 use Rattle.call.specs.Limits.{lengthInside}
 use Rattle.call.proofs.LimitFacts.{lent}
+use Rattle.frame.specs.declared.asking.Fields.{Fields}
+use Rattle.frame.specs.declared.asking.Framed.{Framed}
+use Rattle.frame.specs.declared.asking.Framed.the-variants.{Frame}
 use Rattle.frame.specs.declared.asking.Asking.{Asking}
 use Rattle.frame.specs.declared.asking.Parsed.{Parsed}
 use Rattle.frame.specs.declared.asking.Parsed.the-variants.{Asked, Malformed}
 use Rattle.frame.specs.Layout.{floatWidth, recordLength, longestLine}
 use Rattle.frame.specs.Over.{over}
-use Rattle.frame.specs.Asking.{parsedOf}
+use Rattle.frame.specs.Asking.{framedOf, askedOf, askedIn, parsedOf}
 use Rattle.frame.specs.Writing.{recordOf, lineOf}
 use Rattle.frame.proofs.AskingFacts.{parsed-kept}
 use Rattle.frame.proofs.WriteFacts.{record-length, line-length, line-most}
@@ -28,13 +32,17 @@ use Rattle.bessel.specs.I.{iOutcome}
 use Rattle.bessel.proofs.KernelOutcome as kernel
 use Rattle.bessel.proofs.SeriesOutcome as series
 use Rattle.answering.specs.Called.{calledAs, calledOf, outcomeLine, calledLine}
-use Rattle.answering.specs.Line.{outcomeOf, answerLineOf, sizeInto, bytesInto}
+use Rattle.answering.specs.Line.{outcomeOf, answerLineOf, parsedLine, sizeInto, bytesInto}
 use Rattle.answering.proofs.LengthRefused.{refused-line, length-refused}
 
 -- ---- by what was parsed
 pub called-line : (o : Outcome) (a : Answer) (cells : List Float) → a ≡ o .answer → cells ≡ o .cells → lineOf a cells ≡ outcomeLine o
 unfolding outcomeLine
 called-line o a cells e f = ap (λ (x : Answer). lineOf x cells) e ∙ ap (lineOf (o .answer)) f
+
+pub framed-line : (line : List ℕ) (f : Fields) → framedOf line ≡ Frame f → answerLineOf line ≡ parsedLine (askedOf f)
+unfolding answerLineOf parsedOf askedIn
+framed-line line f e = ap (λ (x : Framed). parsedLine (askedIn x)) e
 
 pub asked-line : (line : List ℕ) (a : Asking) → parsedOf line ≡ Asked a → answerLineOf line ≡ outcomeLine (calledOf a (a .count * 2))
 unfolding answerLineOf outcomeOf
@@ -49,8 +57,8 @@ pub roomy : (d line : List ℕ) → longestLine ≤ length d → (sizeInto (leng
 unfolding sizeInto bytesInto
 roomy d line h = simp (le-leb longestLine (length d) h) (refl, refl)
 
-pub into : (d line l out : List ℕ) (n : ℕ) → longestLine ≤ length d → answerLineOf line ≡ l → n ≡ length l → out ≡ over 0 l d → (n ≡ sizeInto (length d) line) × (out ≡ bytesInto d line)
-into d line l out n h e f g = let r = roomy d line h in (f ∙ ap length (sym e) ∙ sym (r .0), g ∙ ap (λ (x : List ℕ). over 0 x d) (sym e) ∙ sym (r .1))
+pub into : (d line out : List ℕ) (n : ℕ) → longestLine ≤ length d → n ≡ length (answerLineOf line) → out ≡ over 0 (answerLineOf line) d → (n ≡ sizeInto (length d) line) × (out ≡ bytesInto d line)
+into d line out n h f g = let r = roomy d line h in (f ∙ sym (r .0), g ∙ sym (r .1))
 
 -- ---- how long it is
 outcome-length : (o : Outcome) → length (outcomeLine o) ≤ recordLength + length (o .cells) * floatWidth
@@ -80,10 +88,10 @@ asked-bound a true e =
     omega (arith, outcome-length (calledOf a (a .count * 2)), called-cells a (a .count * 2))
 asked-bound a false e = omega (arith, ap length (length-refused a (a .count * 2) e), record-length (refusedOf refusals.Length))
 
-pub called-bound : (a : Asking) → length (calledLine a) ≤ longestLine
+called-bound : (a : Asking) → length (calledLine a) ≤ longestLine
 called-bound a = asked-bound a (lengthInside (a .count * 2)) refl
 
-parsed-bound : (p : Parsed) → length (outcomeLine (outcomeOf p)) ≤ longestLine
+pub parsed-bound : (p : Parsed) → length (outcomeLine (outcomeOf p)) ≤ longestLine
 unfolding outcomeOf
 parsed-bound (Asked a) = called-bound a
 parsed-bound Malformed = omega (arith, ap length (refused-line refusals.Malformed 0), record-length (refusedOf refusals.Malformed))

@@ -20,6 +20,10 @@ outcomeOf Malformed = refusedOutcome refusals.Malformed 0
 unfoldable pub answerLineOf : List ℕ → List ℕ
 answerLineOf line = outcomeLine (outcomeOf (parsedOf line))
 
+-- of what was parsed already
+abbrev pub parsedLine : Parsed → List ℕ
+parsedLine p = outcomeLine (outcomeOf p)
+
 -- ---- into lent bytes: behind the line's end they stay, and fewer than the longest line's are left alone
 unfoldable pub sizeInto : ℕ → List ℕ → ℕ
 sizeInto room line = cond (leb longestLine room) (length (answerLineOf line)) 0

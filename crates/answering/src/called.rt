@@ -1,5 +1,5 @@
-// What a frame asks, answered: the call on cells of its own, or refusal 1 where no cells are that many. A frame of few pairs clears few cells.
-// Promised: the line of calledOf of specs/Called.antt, and its length.
+// What a frame asks, answered: the call on cells of its own, or refusal 1 where no buffer is that long. A frame of few pairs clears few
+// cells. Promised: the line of calledOf of specs/Called.antt, and its length.
 ghost use mathlib.Core.Path.{_≡_};
 ghost use Prim.Native.Nat.{_*_, _≤_};
 ghost use lib.ListN.{length};

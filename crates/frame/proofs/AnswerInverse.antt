@@ -1,5 +1,5 @@
--- Reading and writing an answer line are inverse: the line of an answer and its cells reads as that answer and, cell by cell, as those bits;
--- and a line that is read is the line of what was read. Assumes nothing.
+-- Reading and writing an answer line are inverse: the line of an answer and its cells reads as that answer and, cell by cell, as those
+-- bits; and a line that is read is the line of what was read. Assumes nothing.
 use mathlib.Core.Path.{_≡_, refl, sym, ap, _∙_, subst}
 use mathlib.Core.Bool.{Bool, true, false}
 use mathlib.Core.List.{List, [], _∷_, _++_, map, append-assoc, append-nil}

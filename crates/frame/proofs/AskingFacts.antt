@@ -1,4 +1,4 @@
--- What is asked by a line: only a line of 56 digits asks for anything, so that the first 57 bytes of a line say all. Assumes nothing.
+-- What a line asks: only a line of 56 digits is a frame, so that the first 57 bytes of a line say all. Assumes nothing.
 use mathlib.Core.Path.{_≡_, refl, sym, ap, _∙_}
 use mathlib.Core.Bool.{Bool, true, false, cond, _&&_}
 use mathlib.Core.List.{List}
@@ -9,8 +9,8 @@ use lib.Dec.{leb, eqb}
 use lib.ListN.{length, take, length-take}
 use lib.Seq.{take-all}
 use Rattle.frame.specs.declared.asking.Framed.the-variants.{Frame, NoFrame}
-use Rattle.frame.specs.declared.asking.Asking.{Asking}
-use Rattle.frame.specs.declared.asking.Parsed.the-variants.{Asked, Malformed}
+use Rattle.frame.specs.declared.asking.Fields.{Fields}
+use Rattle.frame.specs.declared.asking.Parsed.the-variants.{Malformed}
 use Rattle.frame.specs.Layout.{askingLength}
 use Rattle.frame.specs.Digits.{areDigits}
 use Rattle.frame.specs.Asking.{fieldsOf, framedOf, askedIn, parsedOf}
@@ -20,16 +20,16 @@ pub other-length : (line : List ℕ) → (length line ≡ askingLength → ⊥) 
 unfolding parsedOf framedOf askedIn
 other-length line h = simp (ne-eqb (length line) askingLength h)
 
-module _ (line : List ℕ) (a : Asking) where
-  framed-if :
-      (b : Bool) → (eqb (length line) askingLength && areDigits line) ≡ b → askedIn (cond b (Frame (fieldsOf line)) NoFrame) ≡ Asked a → (length line ≡ askingLength) × (areDigits line ≡ true)
-  unfolding askedIn
-  framed-if true k e = let t = both (eqb (length line) askingLength) (areDigits line) k in (eqb-true (length line) askingLength (t .0), t .1)
-  framed-if false k e = absurd (let z : _≡_ {A = ℕ} 0 1 = cc in omega arith)
-
-  pub asked-framed : parsedOf line ≡ Asked a → (length line ≡ askingLength) × (areDigits line ≡ true)
-  unfolding parsedOf framedOf
-  asked-framed e = framed-if (eqb (length line) askingLength && areDigits line) refl e
+-- a line that reads as a frame
+pub framed-is : (line : List ℕ) (f : Fields) → framedOf line ≡ Frame f → (length line ≡ askingLength) × (areDigits line ≡ true) × (f ≡ fieldsOf line)
+unfolding framedOf
+framed-is line f e = go (eqb (length line) askingLength && areDigits line) refl e
+  where
+    go :
+        (b : Bool) → (eqb (length line) askingLength && areDigits line) ≡ b → cond b (Frame (fieldsOf line)) NoFrame ≡ Frame f →
+        (length line ≡ askingLength) × (areDigits line ≡ true) × (f ≡ fieldsOf line)
+    go true k q = let t = both (eqb (length line) askingLength) (areDigits line) k in (eqb-true (length line) askingLength (t .0), t .1, cc)
+    go false k q = absurd (let z : _≡_ {A = ℕ} 0 1 = cc in omega arith)
 
 kept-if : (line : List ℕ) (b : Bool) → leb (length line) 57 ≡ b → parsedOf (take 57 line) ≡ parsedOf line
 kept-if line true e = ap parsedOf (take-all 57 line (leb-true (length line) 57 e))

@@ -1,23 +1,23 @@
--- Reading and writing an asking line are inverse: the line of fields that fit their places reads as these fields, and the fields that were read
--- fit, and their line is the line. Assumes nothing.
+-- Reading and writing an asking line are inverse: the line of fields that fit their places reads as these fields; and the fields that were
+-- read fit, and their line is the line. Assumes nothing.
 use mathlib.Core.Path.{_≡_, refl, sym, ap, _∙_, subst}
-use mathlib.Core.Bool.{Bool, true, false, cond, _&&_}
+use mathlib.Core.Bool.{true}
 use mathlib.Core.List.{List, [], _++_, append-assoc, append-nil}
 use Prim.Native.Nat.{ℕ}
 use native.Mathlib.Omega.{arith}
-use borrow.Author.Tests.{eq-eqb, eqb-true}
-use lib.Dec.{eqb}
+use borrow.Author.Tests.{eq-eqb}
 use lib.ListN.{length, drop, length-append, length-drop}
 use lib.Seq.{take-all}
 use Rattle.frame.specs.declared.asking.Fields.{Fields}
-use Rattle.frame.specs.declared.asking.Framed.the-variants.{Frame, NoFrame}
+use Rattle.frame.specs.declared.asking.Framed.the-variants.{Frame}
 use Rattle.frame.specs.Layout.{byteWidth, countWidth, floatWidth, kindAt, scalingAt, countAt, orderAt, reAt, imAt, askingLength}
 use Rattle.frame.specs.Digits.{areDigits, spelledOf, fieldOf}
 use Rattle.frame.specs.Asking.{fieldsOf, framedOf, askingLineOf, FieldsFit}
-use Rattle.frame.proofs.DigitFacts.{both, digits-append, spelled-digits}
+use Rattle.frame.proofs.DigitFacts.{digits-append, spelled-digits}
 use Rattle.frame.proofs.SpellFacts.{spelled-length}
 use Rattle.frame.proofs.FieldFacts.{field-fits, field-again, field-next, field-at}
 use Rattle.frame.proofs.WriteFacts.{asking-length}
+use Rattle.frame.proofs.AskingFacts.{framed-is}
 
 -- ---- what was written is read
 module _ (f : Fields) where
@@ -92,16 +92,6 @@ module _ (line : List ℕ) (l : length line ≡ askingLength) (e : areDigits lin
       field-next kindAt byteWidth line _ (omega arith) e k2
 
 -- ---- in the reader's words
-framed-is : (line : List ℕ) (f : Fields) → framedOf line ≡ Frame f → (length line ≡ askingLength) × (areDigits line ≡ true) × (f ≡ fieldsOf line)
-unfolding framedOf
-framed-is line f e = go (eqb (length line) askingLength && areDigits line) refl e
-  where
-    go :
-        (b : Bool) → (eqb (length line) askingLength && areDigits line) ≡ b → cond b (Frame (fieldsOf line)) NoFrame ≡ Frame f →
-        (length line ≡ askingLength) × (areDigits line ≡ true) × (f ≡ fieldsOf line)
-    go true k q = let t = both (eqb (length line) askingLength) (areDigits line) k in (eqb-true (length line) askingLength (t .0), t .1, cc)
-    go false k q = absurd (let z : _≡_ {A = ℕ} 0 1 = cc in omega arith)
-
 pub asking-fits : (line : List ℕ) (f : Fields) → framedOf line ≡ Frame f → FieldsFit f
 asking-fits line f e = let k = framed-is line f e in subst FieldsFit (sym (k .2)) (fields-fit line (k .0) (k .1))
 

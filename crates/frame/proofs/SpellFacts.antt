@@ -1,4 +1,5 @@
--- Digits written from the last to the first: the record of how far it has come, with laws for the start, one digit, and the end. Assumes nothing.
+-- Digits written from the last to the first: the record of how far it has come, with laws for the start, one digit, and the end.
+-- Assumes nothing.
 use mathlib.Core.Path.{_≡_, refl, sym, ap, _∙_}
 use mathlib.Core.List.{List, [], _∷_, _++_, append-assoc}
 use Prim.Native.Nat.{ℕ, zero, suc, _+_, _-_, _/_, _%_, _≤_, _<_}

@@ -1,4 +1,5 @@
--- An asking frame: a line of 56 digits, its fields, and which of them ask for something (docs/SCOPE.md, The frame program). Definitions only.
+-- An asking frame: a line of 56 digits, its fields, and which of them ask for something (docs/SCOPE.md, The frame program).
+-- Definitions only.
 use mathlib.Core.Bool.{cond, _&&_}
 use mathlib.Core.List.{List, _++_}
 use Prim.Native.Nat.{ℕ, _^_, _<_}

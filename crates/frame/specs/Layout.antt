@@ -1,5 +1,5 @@
--- Where the fields of a frame and of an answer line stand, counted in hexadecimal digits, two a byte (docs/SCOPE.md, The frame program): the one
--- home of the numbers. Definitions only.
+-- Where the fields of a frame and of an answer line stand, counted in hexadecimal digits, two a byte (docs/SCOPE.md, The frame program):
+-- the one home of the numbers. Definitions only.
 use Prim.Native.Nat.{ℕ}
 
 -- ---- widths of fields

@@ -1,6 +1,6 @@
 // An answer line read by its layout alone: the record, how many pairs follow it, and the cells by their bits or as values.
-// From docs/SCOPE.md, The frame program. Promised for every line: readingOf of specs/Reading.antt. Whether there is such a number, and whether
-// a count is possible, is left to who reads.
+// From docs/SCOPE.md, The frame program. Promised for every line: readingOf of specs/Reading.antt. Whether there is such a number,
+// and whether a count is possible, is left to who reads.
 ghost use mathlib.Core.Path.{_≡_};
 ghost use mathlib.Core.Bool.{true};
 ghost use Prim.Native.Nat.{_+_, _*_, _≤_, _<_};
@@ -112,7 +112,8 @@ pub fn cell_bits(line: &[u8], i: usize) -> u64
 
 // As many cells as are lent, from the first on, as values.
 pub fn read_cells(line: &[u8], out: &mut [f64])
-    requires { ⌜ (areDigits (now line) ≡ true) × (recordLength + length (now out) * floatWidth ≤ length (now line)) ⌝ }
+    requires { ⌜ (areDigits (now line) ≡ true)
+        × (recordLength + length (now out) * floatWidth ≤ length (now line)) ⌝ }
     ensures { λ r. ⌜ now (out .exit) ≡ cellsRead (length (now (out .entry))) (now (line .entry)) ⌝ }
 {
     let mut i = 0;

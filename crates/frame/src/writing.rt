@@ -49,10 +49,8 @@ pub fn write_record(answer: Answer, out: &mut [u8])
 // Every cell, from the place `at` on; the answer is the place behind them.
 pub fn write_cells(cells: &[f64], out: &mut [u8], at: usize) -> usize
     requires { ⌜ at + length (now cells) * floatWidth ≤ length (now out) ⌝ }
-    ensures { λ r. ⌜
-        (r ≡ at + length (now (cells .entry)) * floatWidth)
-        × (now (out .exit) ≡ over at (cellsOf (now (cells .entry))) (now (out .entry)))
-        ⌝ }
+    ensures { λ r. ⌜ (r ≡ at + length (now (cells .entry)) * floatWidth)
+        × (now (out .exit) ≡ over at (cellsOf (now (cells .entry))) (now (out .entry))) ⌝ }
 {
     let mut place = at;
     let mut i = 0;
@@ -66,10 +64,8 @@ pub fn write_cells(cells: &[f64], out: &mut [u8], at: usize) -> usize
 
 pub fn write_answer(answer: Answer, cells: &[f64], out: &mut [u8]) -> usize
     requires { ⌜ recordLength + length (now cells) * floatWidth ≤ length (now out) ⌝ }
-    ensures { λ r. ⌜
-        (r ≡ length (lineOf answer (now (cells .entry))))
-        × (now (out .exit) ≡ over 0 (lineOf answer (now (cells .entry))) (now (out .entry)))
-        ⌝ }
+    ensures { λ r. ⌜ (r ≡ length (lineOf answer (now (cells .entry))))
+        × (now (out .exit) ≡ over 0 (lineOf answer (now (cells .entry))) (now (out .entry))) ⌝ }
 {
     write_record(answer, out);
     if answer.number != 0 {

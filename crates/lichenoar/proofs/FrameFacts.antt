@@ -9,14 +9,14 @@ use lib.Dec.{T, eqb, leb}
 use lib.Ieee.Fits.{and-l, and-r}
 use lib.ListN.{length, take, drop, getD, length-append, length-drop}
 use lib.Seq.{take-all, take-suc, take-add, getD-drop, length-take-le, drop-drop}
-use Rattle.frame.specs.declared.asking.Asking.{Asking}
-use Rattle.frame.specs.declared.asking.Parsed.the-variants.{Asked, Malformed}
+use Rattle.frame.specs.declared.asking.Fields.{Fields}
+use Rattle.frame.specs.declared.asking.Framed.the-variants.{Frame, NoFrame}
 use Rattle.frame.specs.Digits.{isDigit, areDigits}
-use Rattle.frame.specs.Asking.{parsedOf}
+use Rattle.frame.specs.Asking.{framedOf, askedOf}
 use Rattle.frame.proofs.DigitFacts.{both}
-use Rattle.frame.proofs.AskingFacts.{asked-framed}
-use Rattle.answering.specs.Called.{calledLine}
-use Rattle.answering.proofs.LineFacts.{asked-line}
+use Rattle.frame.proofs.AskingFacts.{framed-is}
+use Rattle.answering.specs.Line.{parsedLine}
+use Rattle.answering.proofs.LineFacts.{framed-line}
 use Rattle.lichenoar.specs.Lines.{newline}
 use Rattle.lichenoar.specs.Feed.{mostHeld, Feed, withLine, closedOf, stepOf, fedOf, feedOf, frameAhead}
 use Rattle.lichenoar.proofs.FeedFacts.{feed, step-newline, step-other, fed-append, fed-snoc}
@@ -46,17 +46,17 @@ pub record Ahead (chunk : List ℕ) (at : ℕ) : Type 0 where
 
 -- what holds where a frame comes next, and what it asks
 ahead-if :
-    (chunk : List ℕ) (at : ℕ) (a : Asking) (b : Bool) → (leb (at + 57) (length chunk) && eqb (getD chunk (at + 56) 0) newline) ≡ b →
-    cond b (parsedOf (take 56 (drop at chunk))) Malformed ≡ Asked a → Ahead chunk at × (parsedOf (take 56 (drop at chunk)) ≡ Asked a)
-ahead-if chunk at a true k e =
+    (chunk : List ℕ) (at : ℕ) (f : Fields) (b : Bool) → (leb (at + 57) (length chunk) && eqb (getD chunk (at + 56) 0) newline) ≡ b →
+    cond b (framedOf (take 56 (drop at chunk))) NoFrame ≡ Frame f → Ahead chunk at × (framedOf (take 56 (drop at chunk)) ≡ Frame f)
+ahead-if chunk at f true k e =
     let t = both (leb (at + 57) (length chunk)) (eqb (getD chunk (at + 56) 0) newline) k in
-    let d = asked-framed (take 56 (drop at chunk)) a e .1 in
+    let d = framed-is (take 56 (drop at chunk)) f e .1 in
     (record { room = leb-true (at + 57) (length chunk) (t .0); ended = eqb-true (getD chunk (at + 56) 0) newline (t .1); digits = subst T (sym d) tt }, e)
-ahead-if chunk at a false k e = absurd (let z : _≡_ {A = ℕ} 0 1 = cc in omega arith)
+ahead-if chunk at f false k e = absurd (let z : _≡_ {A = ℕ} 0 1 = cc in omega arith)
 
-pub ahead : (chunk : List ℕ) (at : ℕ) (a : Asking) → frameAhead chunk at ≡ Asked a → Ahead chunk at × (parsedOf (take 56 (drop at chunk)) ≡ Asked a)
+pub ahead : (chunk : List ℕ) (at : ℕ) (f : Fields) → frameAhead chunk at ≡ Frame f → Ahead chunk at × (framedOf (take 56 (drop at chunk)) ≡ Frame f)
 unfolding frameAhead
-ahead chunk at a e = ahead-if chunk at a (leb (at + 57) (length chunk) && eqb (getD chunk (at + 56) 0) newline) refl e
+ahead chunk at f e = ahead-if chunk at f (leb (at + 57) (length chunk) && eqb (getD chunk (at + 56) 0) newline) refl e
 
 module _ (chunk : List ℕ) (at : ℕ) (a : Ahead chunk at) where
   left : 57 ≤ length (drop at chunk)
@@ -87,35 +87,35 @@ taken-more l from at next h k =
     ∙ ap (λ (m : ℕ). take m (drop from l)) all
 
 -- ---- the tests in their order
-pub not-long : (chunk : List ℕ) (at : ℕ) → length chunk - at < 57 → frameAhead chunk at ≡ Malformed
+pub not-long : (chunk : List ℕ) (at : ℕ) → length chunk - at < 57 → frameAhead chunk at ≡ NoFrame
 unfolding frameAhead
 not-long chunk at h = simp (lt-leb (at + 57) (length chunk) (omega arith))
 
-pub not-ended : (chunk : List ℕ) (at : ℕ) → (getD chunk (at + 56) 0 ≡ newline → ⊥) → frameAhead chunk at ≡ Malformed
+pub not-ended : (chunk : List ℕ) (at : ℕ) → (getD chunk (at + 56) 0 ≡ newline → ⊥) → frameAhead chunk at ≡ NoFrame
 unfolding frameAhead
 not-ended chunk at h =
-    ap (λ (b : Bool). cond (leb (at + 57) (length chunk) && b) (parsedOf (take 56 (drop at chunk))) Malformed) (ne-eqb (getD chunk (at + 56) 0) newline h)
-    ∙ ap (λ (b : Bool). cond b (parsedOf (take 56 (drop at chunk))) Malformed) (none (leb (at + 57) (length chunk)))
+    ap (λ (b : Bool). cond (leb (at + 57) (length chunk) && b) (framedOf (take 56 (drop at chunk))) NoFrame) (ne-eqb (getD chunk (at + 56) 0) newline h)
+    ∙ ap (λ (b : Bool). cond b (framedOf (take 56 (drop at chunk))) NoFrame) (none (leb (at + 57) (length chunk)))
   where
     none : (b : Bool) → (b && false) ≡ false
     none true = refl
     none false = refl
 
-pub by-parsing : (chunk : List ℕ) (at n : ℕ) → n ≡ 56 → 57 ≤ length chunk - at → at < length chunk → getD chunk (at + 56) 0 ≡ newline → parsedOf (take n (drop at chunk)) ≡ frameAhead chunk at
+pub by-reading : (chunk : List ℕ) (at n : ℕ) → n ≡ 56 → 57 ≤ length chunk - at → at < length chunk → getD chunk (at + 56) 0 ≡ newline → framedOf (take n (drop at chunk)) ≡ frameAhead chunk at
 unfolding frameAhead
-by-parsing chunk at n m h l g =
-    ap (λ (k : ℕ). parsedOf (take k (drop at chunk))) m
+by-reading chunk at n m h l g =
+    ap (λ (k : ℕ). framedOf (take k (drop at chunk))) m
     ∙ sym (simp (le-leb (at + 57) (length chunk) (omega arith), eq-eqb (getD chunk (at + 56) 0) newline g))
 
 -- ---- a frame closed where it stands, and a byte
 pub frame-taken :
-    (chunk line out w : List ℕ) (at held filled n : ℕ) (a : Asking) → Ahead chunk at → parsedOf (take 56 (drop at chunk)) ≡ Asked a → held ≡ 0 → n ≡ 57 → w ≡ withLine (calledLine a) (take filled out) →
+    (chunk line out w : List ℕ) (at held filled n : ℕ) (f : Fields) → Ahead chunk at → framedOf (take 56 (drop at chunk)) ≡ Frame f → held ≡ 0 → n ≡ 57 → w ≡ withLine (parsedLine (askedOf f)) (take filled out) →
     feed (take held line) w ≡ fedOf (feedOf line held out filled) (take n (drop at chunk))
 unfolding closedOf
-frame-taken chunk line out w at held filled n a h p z q e =
+frame-taken chunk line out w at held filled n f h p z q e =
     let D = take 56 (drop at chunk) in
     ap (λ (k : ℕ). feed (take k line) w) z
-    ∙ ap (feed []) (e ∙ ap (λ (l : List ℕ). withLine l (take filled out)) (sym (asked-line D a p)))
+    ∙ ap (feed []) (e ∙ ap (λ (l : List ℕ). withLine l (take filled out)) (sym (framed-line D f p)))
     ∙ sym (frame-fed chunk at h (take filled out))
     ∙ sym (ap (λ (k : ℕ). fedOf (feed (take k line) (take filled out)) (take 57 (drop at chunk))) z)
     ∙ sym (ap (λ (k : ℕ). fedOf (feedOf line held out filled) (take k (drop at chunk))) q)

@@ -1,4 +1,5 @@
--- What the program comes to: fed the whole input, cut into reads anywhere and written out anywhere, it has written one answer line for each line. Assumes nothing.
+-- What the program comes to: fed the whole input, cut into reads anywhere and written out anywhere, it has written one answer line for each
+-- line. Assumes nothing.
 use mathlib.Core.Path.{_≡_, refl, sym, ap, _∙_}
 use mathlib.Core.Bool.{Bool, true, false, cond}
 use mathlib.Core.List.{List, [], _∷_, _++_, append-assoc, append-nil}

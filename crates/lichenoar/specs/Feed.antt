@@ -6,9 +6,9 @@ use Prim.Native.Nat.{ℕ, _+_, _≤_}
 use mathlib.Core.Path.{_≡_}
 use lib.Dec.{eqb, leb}
 use lib.ListN.{length, take, drop, getD}
-use Rattle.frame.specs.declared.asking.Parsed.{Parsed}
-use Rattle.frame.specs.declared.asking.Parsed.the-variants.{Malformed}
-use Rattle.frame.specs.Asking.{parsedOf}
+use Rattle.frame.specs.declared.asking.Framed.{Framed}
+use Rattle.frame.specs.declared.asking.Framed.the-variants.{NoFrame}
+use Rattle.frame.specs.Asking.{framedOf}
 use Rattle.answering.specs.Line.{answerLineOf}
 use Rattle.lichenoar.specs.Lines.{newline}
 
@@ -59,6 +59,6 @@ pub record Within (line : List ℕ) (held : ℕ) (out : List ℕ) (filled : ℕ)
   pub few : held ≤ mostHeld
   pub room : filled ≤ length out
 
--- from an index on: what 56 bytes ask, where a newline stands behind them
-unfoldable pub frameAhead : List ℕ → ℕ → Parsed
-frameAhead chunk at = cond (leb (at + 57) (length chunk) && eqb (getD chunk (at + 56) 0) newline) (parsedOf (take 56 (drop at chunk))) Malformed
+-- from an index on: the fields of 56 bytes, where a newline stands behind them
+unfoldable pub frameAhead : List ℕ → ℕ → Framed
+frameAhead chunk at = cond (leb (at + 57) (length chunk) && eqb (getD chunk (at + 56) 0) newline) (framedOf (take 56 (drop at chunk))) NoFrame

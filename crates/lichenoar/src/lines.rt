@@ -4,13 +4,15 @@ ghost use mathlib.Core.Path.{_≡_};
 ghost use mathlib.Core.List.{[], _∷_, _++_};
 ghost use Prim.Native.Nat.{_+_, _-_, _≤_, _<_};
 ghost use lib.ListN.{length, take, drop};
-ghost use Rattle.answering.specs.Called.{calledLine};
+ghost use Rattle.frame.specs.Asking.{askedOf};
+ghost use Rattle.answering.specs.Line.{parsedLine};
 ghost use Rattle.lichenoar.specs.Feed.{mostHeld, mostRoom, withLine, closedOf, stepOf, fedOf, feedOf, Within, frameAhead};
-use answering::called::answer_asking;
 use answering::line::answer_line;
-use frame::asking::Asking;
-use frame::asking::Parsed;
-use frame::asking::parse;
+use answering::line::answer_parsed;
+use frame::asking::Fields;
+use frame::asking::Framed;
+use frame::asking::asked;
+use frame::asking::read_asking;
 use frame::layout::ASKING_LENGTH;
 
 const NEWLINE: u8 = 10;
@@ -45,13 +47,13 @@ pub fn close_line(line: &[u8], held: usize, out: &mut [u8], filled: usize) -> us
     end + 1
 }
 
-// The same of a line that was parsed where it stands.
-fn close_frame(asking: Asking, out: &mut [u8], filled: usize) -> usize
+// The same of a frame whose fields were read where it stands.
+fn close_frame(fields: Fields, out: &mut [u8], filled: usize) -> usize
     requires { ⌜ filled + mostRoom ≤ length (now out) ⌝ }
     ensures { λ r. ⌜ (r ≤ length (now (out .exit)))
-        × (take r (now (out .exit)) ≡ withLine (calledLine asking) (take filled (now (out .entry)))) ⌝ }
+        × (take r (now (out .exit)) ≡ withLine (parsedLine (askedOf fields)) (take filled (now (out .entry)))) ⌝ }
 {
-    let n = answer_asking(asking, &mut out[filled..]);
+    let n = answer_parsed(asked(fields), &mut out[filled..]);
     let end = filled + n;
     out[end] = NEWLINE;
     end + 1
@@ -88,18 +90,18 @@ fn take_byte(b: u8, line: &mut [u8], held: usize, out: &mut [u8], filled: usize)
     }
 }
 
-// What is asked by the next line where a frame and its newline come next: then the line need not be held, and is answered at once.
-fn frame_ahead(chunk: &[u8], at: usize) -> Parsed
+// The fields of the next line where a frame and its newline come next: then the line need not be held, and is answered at once.
+fn frame_ahead(chunk: &[u8], at: usize) -> Framed
     requires { ⌜ at < length (now chunk) ⌝ }
     ensures { λ r. ⌜ r ≡ frameAhead (now (chunk .entry)) at ⌝ }
 {
     if chunk.len() - at < LINE_LENGTH {
-        return Parsed::Malformed;
+        return Framed::NoFrame;
     }
     if chunk[at + ASKING_LENGTH] != NEWLINE {
-        return Parsed::Malformed;
+        return Framed::NoFrame;
     }
-    parse(&chunk[at..at + ASKING_LENGTH])
+    read_asking(&chunk[at..at + ASKING_LENGTH])
 }
 
 // A whole frame with its newline where nothing is held, and else one byte.
@@ -123,8 +125,8 @@ fn take_some(
 {
     if held == 0 {
         let ahead = frame_ahead(chunk, at);
-        if let Parsed::Asked(asking) = ahead {
-            let end = close_frame(asking, out, filled);
+        if let Framed::Frame(fields) = ahead {
+            let end = close_frame(fields, out, filled);
             return Progress {
                 at: at + LINE_LENGTH,
                 held,

@@ -1,4 +1,5 @@
--- `frame::digits::are_digits` meets its contract: at each index passed, the digits counted and what is left of the line decide. Assumes nothing.
+-- `frame::digits::are_digits` meets its contract: at each index passed, the digits counted and what is left of the line decide.
+-- Assumes nothing.
 use mathlib.Core.Path.{_≡_, refl, sym, ap, _∙_}
 use mathlib.Core.Logic.{⊎-elim}
 use mathlib.Core.List.{List}

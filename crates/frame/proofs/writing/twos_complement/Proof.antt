@@ -1,4 +1,5 @@
--- `frame::writing::twos_complement` meets its contract: of a negative count the distance to -1 is no less than 0, and fits. Assumes nothing.
+-- `frame::writing::twos_complement` meets its contract: of a negative count the distance to -1 is no less than 0, and fits.
+-- Assumes nothing.
 use mathlib.Core.Path.{_≡_, refl, sym, ap, _∙_, subst}
 use mathlib.Core.Bool.{true, false}
 use Prim.Native.Nat.{ℕ, suc, _-_, _%_, _^_, _<_}

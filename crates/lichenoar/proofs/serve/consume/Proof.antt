@@ -1,4 +1,5 @@
--- `lichenoar::serve::consume` meets its contract: what is held is what the bytes taken so far leave, wherever the written bytes go. Assumes nothing.
+-- `lichenoar::serve::consume` meets its contract: what is held is what the bytes taken so far leave, wherever the written bytes go.
+-- Assumes nothing.
 use mathlib.Core.Path.{_≡_, refl, sym, ap, _∙_, subst}
 use mathlib.Core.List.{List, []}
 use Prim.Native.Nat.{ℕ, _-_, _≤_, _<_}

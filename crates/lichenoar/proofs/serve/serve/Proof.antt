@@ -1,4 +1,5 @@
--- `lichenoar::serve::serve` meets its contract: the buffers keep their lengths from turn to turn, and the turns are counted down. Assumes nothing.
+-- `lichenoar::serve::serve` meets its contract: the buffers keep their lengths from turn to turn, and the turns are counted down.
+-- Assumes nothing.
 use mathlib.Core.Path.{_≡_}
 use Prim.Native.Nat.{_≤_}
 use native.Mathlib.Omega.{arith}

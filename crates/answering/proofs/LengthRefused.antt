@@ -1,7 +1,7 @@
 -- Refusals as lines: a refusal's line is its record, and a count that no buffer can have is refused for its length, whatever else the frame
 -- says. Assumes nothing.
 use mathlib.Core.Path.{_≡_, refl, ap, _∙_}
-use mathlib.Core.Bool.{Bool, true, false, not, _&&_}
+use mathlib.Core.Bool.{Bool, true, false, _&&_}
 use mathlib.Core.List.{List, _++_}
 use Prim.Native.Nat.{ℕ, _*_, _<_}
 use native.Mathlib.Omega.{arith}
@@ -13,7 +13,7 @@ use Rattle.refusal.specs.declared.refusal.Refusal.the-variants.{Length}
 use Rattle.call.specs.declared.kind.Kind.{Kind}
 use Rattle.call.specs.declared.kind.Kind.the-variants.{K, I}
 use Rattle.call.specs.declared.checks.Verdict.{Verdict}
-use Rattle.call.specs.declared.checks.Verdict.the-variants.{Admitted, Refused}
+use Rattle.call.specs.declared.checks.Verdict.the-variants.{Refused}
 use Rattle.call.specs.Answer.{refusedOf}
 use Rattle.call.specs.Limits.{lengthInside}
 use Rattle.call.specs.Checks.{Check, refusedIf, verdictFrom, verdictOf, lengthChecks}

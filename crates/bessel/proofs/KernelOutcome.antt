@@ -21,8 +21,8 @@ use Rattle.call.specs.Checks.{Check, refusedIf, verdictFrom, verdictOf, numberG
 use Rattle.call.proofs.FirstFacts.{Given}
 use Rattle.call.proofs.LimitFacts.{lent}
 use Rattle.right_half_plane.specs.declared.kernel.Counts.{Counts}
-use Rattle.right_half_plane.specs.declared.kernel.Outcome as kernels
-use Rattle.right_half_plane.specs.declared.kernel.Outcome.the-variants as ended
+use Rattle.right_half_plane.specs.declared.kernel.Ending as kernels
+use Rattle.right_half_plane.specs.declared.kernel.Ending.the-variants as ended
 use Rattle.right_half_plane.specs.Ground.{nearestOrder, groundOf}
 use Rattle.right_half_plane.specs.Seeds.{seedOf}
 use Rattle.right_half_plane.specs.Kernel.{Kernel, kernelOf}
@@ -37,17 +37,17 @@ use Rattle.bessel.proofs.CheckFacts.{k-passed}
 use Rattle.bessel.proofs.CallFacts.{no-other, judged-number, RefusedWhole, refused-facts, Ended, refused, answered, ends, numbered}
 
 -- ---- how the kernel's steps end: refusal 6, 7, or neither
-data EndsWith (o : kernels.Outcome) : Type 0 where
+data EndsWith (o : kernels.Ending) : Type 0 where
   by-answer : (counts : Counts) → o ≡ ended.Answered counts → EndsWith o
   by-start : o ≡ ended.Refused refusals.Start → EndsWith o
   by-climb : o ≡ ended.Refused refusals.Climb → EndsWith o
 
-ends-with : (n : ℕ) (o : kernels.Outcome) (cells : List Float) → Delivers n o cells → EndsWith o
+ends-with : (n : ℕ) (o : kernels.Ending) (cells : List Float) → Delivers n o cells → EndsWith o
 ends-with n (ended.Answered counts) cells h = by-answer counts refl
 ends-with n (ended.Refused refusal) cells (inl e) = by-start (ap ended.Refused e)
 ends-with n (ended.Refused refusal) cells (inr e) = by-climb (ap ended.Refused e)
 
-kernel-ends : (scaled : Bool) (a : Arguments) (length : ℕ) → EndsWith (kernelBy scaled a length .outcome)
+kernel-ends : (scaled : Bool) (a : Arguments) (length : ℕ) → EndsWith (kernelBy scaled a length .ending)
 unfolding kernelBy
 kernel-ends scaled a length = ends-with (length / 2) _ _ (kernel-delivers scaled (a .order) (a .z) (a .modulus) (length / 2))
 
@@ -56,7 +56,7 @@ counts-number : (c : Counts) → countsAnswer c .number ≡ 0
 unfolding countsAnswer answeredOf
 counts-number c = refl
 
-later-by : (length : ℕ) (o : kernels.Outcome) (cells : List Float) → EndsWith o → numberGiven (verdictOf (kernelChecks (record { outcome = o; cells = cells }))) ≡ concludedOf length (kernelSteps o cells) .answer .number
+later-by : (length : ℕ) (o : kernels.Ending) (cells : List Float) → EndsWith o → numberGiven (verdictOf (kernelChecks (record { ending = o; cells = cells }))) ≡ concludedOf length (kernelSteps o cells) .answer .number
 unfolding verdictOf verdictFrom refusedIf numberGiven kernelChecks kernelSteps concludedOf judgedOf refusedOutcome refusedOf
 later-by length o cells (by-answer counts e) = rw e (judged-number (allFinite cells) length (countsAnswer counts) cells (counts-number counts))
 later-by length o cells (by-start e) = rw e
@@ -71,7 +71,7 @@ listed scaled a length = refl
 pub record AnsweredWhole (scaled : Bool) (a : Arguments) (length : ℕ) (o : Outcome) : Type 0 where
   pub passed : noneApplies (kChecks a length) ≡ true
   pub counts : Counts
-  pub kernel : kernelBy scaled a length .outcome ≡ ended.Answered counts
+  pub kernel : kernelBy scaled a length .ending ≡ ended.Answered counts
   pub finite : allFinite (kernelBy scaled a length .cells) ≡ true
   pub answer : o .answer ≡ countsAnswer counts
   pub cells : o .cells ≡ kernelBy scaled a length .cells
@@ -87,14 +87,14 @@ pub record Counted (scaled : Bool) (a : Arguments) (length : ℕ) (o : Outcome) 
   pub front : take (count * 2) (o .cells) ≡ replicate (count * 2) (ofBits binary64 0)
 
 -- what steps that deliver have of the kernel
-record Delivery (o : kernels.Outcome) (l : List Float) (answer : Answer) (from : ℕ) (cells : List Float) : Type 0 where
+record Delivery (o : kernels.Ending) (l : List Float) (answer : Answer) (from : ℕ) (cells : List Float) : Type 0 where
   counts : Counts
   kernel : o ≡ ended.Answered counts
   same-answer : answer ≡ countsAnswer counts
   same-cells : cells ≡ l
   same-finished : drop from cells ≡ l
 
-delivery : (o : kernels.Outcome) (l : List Float) (answer : Answer) (from : ℕ) (cells : List Float) → kernelSteps o l ≡ Delivered answer from cells → Delivery o l answer from cells
+delivery : (o : kernels.Ending) (l : List Float) (answer : Answer) (from : ℕ) (cells : List Float) → kernelSteps o l ≡ Delivered answer from cells → Delivery o l answer from cells
 unfolding kernelSteps
 delivery (ended.Answered c) l answer from cells e =
     let f : 0 ≡ from = cc in
@@ -114,7 +114,7 @@ module _ (scaled : Bool) (v re im : Float) (length : ℕ) where
   numbers =
       let a = argumentsOf v re im in
       let k = kernelBy scaled a length in
-      numbered (kChecks a length) (kernelChecks k) length (kernelSteps (k .outcome) (k .cells)) (later-by length (k .outcome) (k .cells) (kernel-ends scaled a length))
+      numbered (kChecks a length) (kernelChecks k) length (kernelSteps (k .ending) (k .cells)) (later-by length (k .ending) (k .cells) (kernel-ends scaled a length))
 
   whole-by : let a = argumentsOf v re im in Ended (kChecks a length) length (kSteps scaled a length) →
       RefusedWhole length (kOutcome scaled v re im length) ⊎ AnsweredWhole scaled (argumentsOf v re im) length (kOutcome scaled v re im length)
@@ -122,7 +122,7 @@ module _ (scaled : Bool) (v re im : Float) (length : ℕ) where
   whole-by (refused r e) = inl (subst (RefusedWhole length) (sym e) (refused-facts length r))
   whole-by (answered answer from cells p s f e) =
       let k = kernelBy scaled (argumentsOf v re im) length in
-      let d = delivery (k .outcome) (k .cells) answer from cells s in
+      let d = delivery (k .ending) (k .cells) answer from cells s in
       inr (record {
         passed = p;
         counts = d .counts;
@@ -152,7 +152,7 @@ module _ (scaled : Bool) (v re im : Float) (length : ℕ) where
 
   delivered : (w : AnsweredWhole scaled (argumentsOf v re im) length (kOutcome scaled v re im length)) → Delivers (length / 2) (ended.Answered (w .counts)) (kernelBy scaled (argumentsOf v re im) length .cells)
   unfolding kernelBy
-  delivered w = let a = argumentsOf v re im in subst (λ (o : kernels.Outcome). Delivers (length / 2) o (kernelBy scaled a length .cells)) (w .kernel) (kernel-delivers scaled (a .order) (a .z) (a .modulus) (length / 2))
+  delivered w = let a = argumentsOf v re im in subst (λ (o : kernels.Ending). Delivers (length / 2) o (kernelBy scaled a length .cells)) (w .kernel) (kernel-delivers scaled (a .order) (a .z) (a .modulus) (length / 2))
 
   -- an outcome has a value for each lent cell
   pub cells-length : length-of (kOutcome scaled v re im length .cells) ≡ length

@@ -9,8 +9,8 @@ use Rattle.refusal.specs.declared.refusal.Refusal.{Refusal}
 use Rattle.refusal.specs.declared.refusal.Refusal.the-variants.{Start, Climb, Overflow}
 use Rattle.cells.specs.AllFinite.{allFinite}
 use Rattle.right_half_plane.specs.declared.kernel.Counts.{Counts}
-use Rattle.right_half_plane.specs.declared.kernel.Outcome as kernels
-use Rattle.right_half_plane.specs.declared.kernel.Outcome.the-variants as ended
+use Rattle.right_half_plane.specs.declared.kernel.Ending as kernels
+use Rattle.right_half_plane.specs.declared.kernel.Ending.the-variants as ended
 use Rattle.right_half_plane.specs.Kernel.{Kernel, kernelOf}
 use Rattle.call.specs.declared.answer.Answer.{Answer}
 use Rattle.call.specs.Answer.{signedOf, answeredOf}
@@ -29,12 +29,12 @@ unfoldable pub countsAnswer : Counts → Answer
 countsAnswer c = answeredOf (signedOf false (c .zeros)) (c .«longest_sum») (c .rungs) (c .backward)
 
 -- every cell of an answer is finished
-unfoldable pub kernelSteps : kernels.Outcome → List Float → Steps
+unfoldable pub kernelSteps : kernels.Ending → List Float → Steps
 kernelSteps (ended.Answered c) cells = Delivered (countsAnswer c) 0 cells
 kernelSteps (ended.Refused r) cells = Stopped r
 
 unfoldable pub kSteps : Bool → Arguments → ℕ → Steps
-kSteps scaled a length = let k = kernelBy scaled a length in kernelSteps (k .outcome) (k .cells)
+kSteps scaled a length = let k = kernelBy scaled a length in kernelSteps (k .ending) (k .cells)
 
 unfoldable pub kOutcome : Bool → Float → Float → Float → ℕ → Outcome
 kOutcome scaled v re im length =
@@ -42,14 +42,14 @@ kOutcome scaled v re im length =
     callOutcome (kChecks a length) length (kSteps scaled a length)
 
 -- ---- all checks, those that the steps answer too: 6, 7 and 8 are the last
-abbrev pub refuses : Refusal → kernels.Outcome → Bool
+abbrev pub refuses : Refusal → kernels.Ending → Bool
 refuses refusal (ended.Answered c) = false
 refuses refusal (ended.Refused r) = eqb (numberOf r) (numberOf refusal)
 
 unfoldable pub kernelChecks : Kernel → List Check
 kernelChecks k =
-    check (refuses Start (k .outcome)) Start
-    ∷ check (refuses Climb (k .outcome)) Climb
+    check (refuses Start (k .ending)) Start
+    ∷ check (refuses Climb (k .ending)) Climb
     ∷ check (not (allFinite (k .cells))) Overflow
     ∷ []
 
@@ -57,6 +57,6 @@ unfoldable pub allKChecks : Bool → Arguments → ℕ → List Check
 allKChecks scaled a length = kChecks a length ++ kernelChecks (kernelBy scaled a length)
 
 -- zeros that a count of the record can hold
-abbrev pub Fewer : kernels.Outcome → Type 0
+abbrev pub Fewer : kernels.Ending → Type 0
 Fewer (ended.Answered c) = c .zeros ≤ 512
 Fewer (ended.Refused r) = Unit

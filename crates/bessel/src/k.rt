@@ -20,22 +20,22 @@ use call::answer::Answer;
 use call::answer::answered;
 use call::answer::signed;
 use call::checks::Verdict;
-use right_half_plane::kernel::Outcome;
+use right_half_plane::kernel::Ending;
 use right_half_plane::kernel::k_right_half_plane;
 
 // Every entry of an answer is finished; a refusal has left the cells as they were, and they are filled here.
-fn concluded(outcome: Outcome, out: &mut [f64]) -> Answer
-    requires { ⌜ Fewer outcome ⌝ }
-    ensures { λ r. ⌜ (r ≡ concludedOf (length (now (out .entry))) (kernelSteps outcome (now (out .entry))) .answer)
-        × (now (out .exit) ≡ concludedOf (length (now (out .entry))) (kernelSteps outcome (now (out .entry))) .cells) ⌝ }
+fn concluded(ending: Ending, out: &mut [f64]) -> Answer
+    requires { ⌜ Fewer ending ⌝ }
+    ensures { λ r. ⌜ (r ≡ concludedOf (length (now (out .entry))) (kernelSteps ending (now (out .entry))) .answer)
+        × (now (out .exit) ≡ concludedOf (length (now (out .entry))) (kernelSteps ending (now (out .entry))) .cells) ⌝ }
 {
-    match outcome {
-        Outcome::Answered(c) => judge(
+    match ending {
+        Ending::Answered(c) => judge(
             answered(signed(false, c.zeros), c.longest_sum, c.rungs, c.backward),
             0,
             out,
         ),
-        Outcome::Refused(refusal) => refuse(refusal, out),
+        Ending::Refused(refusal) => refuse(refusal, out),
     }
 }
 
@@ -48,8 +48,8 @@ fn by_kernel(scaled: bool, a: Arguments, out: &mut [f64]) -> Answer
         × (now (out .exit) ≡ concludedOf (length (now (out .entry))) (kSteps scaled a (length (now (out .entry)))) .cells) ⌝ }
 {
     let z = a.z;
-    let outcome = k_right_half_plane(scaled, a.order, z, a.modulus, out);
-    concluded(outcome, out)
+    let ending = k_right_half_plane(scaled, a.order, z, a.modulus, out);
+    concluded(ending, out)
 }
 
 pub fn k(scaled: bool, v: f64, re: f64, im: f64, out: &mut [f64]) -> Answer

@@ -24,7 +24,7 @@ use Rattle.frame.proofs.SpellFacts.{spelled-length}
 use Rattle.frame.proofs.FieldFacts.{field-fits, field-again, field-next, field-at}
 use Rattle.frame.proofs.WordFacts.{word-small, word-back, word-again}
 use Rattle.frame.proofs.WriteFacts.{spelled-record-length, spelled-record-digits, patterns-digits, patterns-cells, line-refused, line-answered}
-use Rattle.frame.proofs.ReadFacts.{readable, pairs-inside, none-inside, Taken, taken}
+use Rattle.frame.proofs.ReadFacts.{readable, pairs-inside, none-inside, taken}
 
 -- ---- patterns, one behind the other
 patterns-length : (bs : List ℕ) → length (spelledPatterns bs) ≡ length bs * floatWidth

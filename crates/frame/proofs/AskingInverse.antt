@@ -47,7 +47,7 @@ module _ (f : Fields) where
       (digits-append p3 _ (spelled-digits countWidth (f .count))
       (digits-append p4 _ (spelled-digits floatWidth (f .v)) (digits-append p5 p6 (spelled-digits floatWidth (f .re)) (spelled-digits floatWidth (f .im))))))
 
-  pub fields-read : FieldsFit f → fieldsOf (askingLineOf f) ≡ f
+  fields-read : FieldsFit f → fieldsOf (askingLineOf f) ≡ f
   unfolding fieldsOf askingLineOf
   fields-read h =
       let line = askingLineOf f in
@@ -70,7 +70,7 @@ module _ (f : Fields) where
 
 -- ---- what was read is written
 module _ (line : List ℕ) (l : length line ≡ askingLength) (e : areDigits line ≡ true) where
-  pub fields-fit : FieldsFit (fieldsOf line)
+  fields-fit : FieldsFit (fieldsOf line)
   unfolding fieldsOf
   fields-fit = record {
     kind = field-fits kindAt byteWidth line (omega arith) e;
@@ -81,7 +81,7 @@ module _ (line : List ℕ) (l : length line ≡ askingLength) (e : areDigits lin
     im = field-fits imAt floatWidth line (omega arith) e;
   }
 
-  pub fields-written : askingLineOf (fieldsOf line) ≡ line
+  fields-written : askingLineOf (fieldsOf line) ≡ line
   unfolding askingLineOf fieldsOf
   fields-written =
       let k6 = field-again imAt floatWidth line (omega arith) e ∙ take-all floatWidth (drop imAt line) (omega (arith, length-drop imAt line)) in

@@ -9,16 +9,16 @@ use native.Mathlib.Omega.{arith}
 use lib.ListN.{length, take, drop, length-drop, take-append-drop}
 use lib.Pow.{pow-mono}
 use lib.Seq.{take-at, drop-at, drop-drop, length-take-le}
-use Rattle.frame.specs.Digits.{areDigits, numberFrom, numberOf, spelledOf, fieldOf}
+use Rattle.frame.specs.Digits.{areDigits, numberOf, spelledOf, fieldOf}
 use Rattle.frame.proofs.DigitFacts.{digits-part, number-fits, number-spelled, spelled-number}
 use Rattle.frame.proofs.SpellFacts.{spelled-length}
 
 module _ (at width : ℕ) (line : List ℕ) (h : at + width ≤ length line) where
-  pub part-length : length (take width (drop at line)) ≡ width
+  part-length : length (take width (drop at line)) ≡ width
   part-length = length-take-le width (drop at line) (omega (arith, length-drop at line))
 
   -- what stands from a place on is the part there and what stands behind it
-  pub part-rest : take width (drop at line) ++ drop (at + width) line ≡ drop at line
+  part-rest : take width (drop at line) ++ drop (at + width) line ≡ drop at line
   part-rest = ap (λ (l : List ℕ). take width (drop at line) ++ l) (sym (drop-drop width at line)) ∙ take-append-drop width (drop at line)
 
   module _ (e : areDigits line ≡ true) where

@@ -57,7 +57,7 @@ rest-if number rest false e k =
     let none : rest ≡ 0 = eqb-true rest 0 k in
     record { whole = omega arith; answered = λ z. absurd (eqb-false number 0 e z); refused = λ n. omega arith }
 
-pub rest-known : (number rest : ℕ) → restInside number rest ≡ true → Rest number rest
+rest-known : (number rest : ℕ) → restInside number rest ≡ true → Rest number rest
 unfolding restInside
 rest-known number rest k = rest-if number rest (eqb number 0) refl k
 

@@ -2,7 +2,7 @@
 use mathlib.Core.Path.{_≡_, refl, sym, ap, _∙_, subst}
 use mathlib.Core.Bool.{Bool, true, false, cond, _&&_}
 use mathlib.Core.List.{List, [], _∷_, _++_, append-assoc, append-nil}
-use Prim.Native.Nat.{ℕ, zero, suc, _+_, _-_, _≤_, _<_}
+use Prim.Native.Nat.{ℕ, _+_, _-_, _≤_, _<_}
 use native.Mathlib.Omega.{arith}
 use borrow.Author.Tests.{le-leb, lt-leb, eq-eqb, ne-eqb, leb-true, eqb-true}
 use lib.Dec.{T, eqb, leb}
@@ -19,7 +19,7 @@ use Rattle.answering.specs.Line.{parsedLine}
 use Rattle.answering.proofs.LineFacts.{framed-line}
 use Rattle.lichenoar.specs.Lines.{newline}
 use Rattle.lichenoar.specs.Feed.{mostHeld, Feed, withLine, closedOf, stepOf, fedOf, feedOf, frameAhead}
-use Rattle.lichenoar.proofs.FeedFacts.{feed, step-newline, step-other, fed-append, fed-snoc}
+use Rattle.lichenoar.proofs.FeedFacts.{feed, step-newline, step-other, fed-snoc}
 
 -- ---- digits are held one by one
 newline-no-digit : isDigit newline ≡ false

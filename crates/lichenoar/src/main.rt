@@ -1,5 +1,5 @@
 // The frame program: an asking frame a line on standard input, an answer line each on standard output. docs/SCOPE.md, The frame program.
-// It splits lines and copies bytes: what it writes for a line is crate answering's. A line without its newline at the end of the input counts.
+// It splits lines and copies bytes: what it writes for a line is crate answering's. A last line without its newline counts.
 mod lines;
 mod serve;
 

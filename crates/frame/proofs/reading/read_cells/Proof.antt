@@ -1,14 +1,14 @@
 -- `frame::reading::read_cells` meets its contract: one cell behind the other. Assumes nothing.
-use mathlib.Core.Path.{_≡_, refl, sym, ap, _∙_}
+use mathlib.Core.Path.{_≡_, sym, ap, _∙_}
 use mathlib.Core.List.{[], _∷_, _++_}
-use Prim.Native.Nat.{ℕ, _+_, _*_, _-_}
+use Prim.Native.Nat.{ℕ, _+_, _-_}
 use native.Mathlib.Numerals.{add-one}
 use native.Mathlib.Omega.{arith}
 use borrow.Author.Needs.{needs}
 use lib.Ieee.{Float, binary64, ofBits}
 use lib.ListN.{length}
 use Rattle.laws.proofs.Seam.{Seam, seam-start, seam-store, seam-as, seam-full}
-use Rattle.frame.specs.Reading.{cellBitsOf, cellsRead}
+use Rattle.frame.specs.Reading.{cellsRead}
 use Rattle.frame.proofs.reading.read_cells.Statement.{statement}
 use Rattle.frame.proofs.reading.read_cells.Tie as tie
 

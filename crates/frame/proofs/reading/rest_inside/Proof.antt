@@ -1,5 +1,4 @@
 -- `frame::reading::rest_inside` meets its contract, by the tests in their order. Assumes nothing.
-use Prim.Native.Nat.{_≤_, _<_}
 use native.Mathlib.Omega.{arith}
 use borrow.Author.Tests.{lt-ltb, le-ltb, le-leb, lt-leb, eq-eqb, ne-eqb}
 use Rattle.frame.specs.Reading.{restInside}

@@ -1,7 +1,5 @@
 -- `frame::reading::short` meets its contract: four digits are below 65,536. Assumes nothing.
 use mathlib.Core.Path.{sym, subst}
-use Prim.Native.Nat.{ℕ, _<_}
-use native.Mathlib.Omega.{arith}
 use mir.Syntax.{w32}
 use mir.Val.{Fits}
 use Rattle.frame.proofs.FieldFacts.{short-fits}

@@ -30,7 +30,7 @@ use Rattle.frame.specs.Writing.{twosComplement, spelledRecord, recordOf, cellsO
 use Rattle.frame.proofs.AskingFacts.{other-length}
 use Rattle.bessel.specs.declared.arguments.Arguments.{Arguments}
 use Rattle.bessel.specs.Arguments.{argumentsOf}
-use Rattle.bessel.specs.Checks.{argumentChecks, kChecks, seriesChecks}
+use Rattle.bessel.specs.Checks.{argumentChecks, kOwnChecks, kChecks, seriesOwnChecks, seriesChecks}
 use Rattle.bessel.specs.Outcome.{Outcome, refusedOutcome, judgedIf, judgedOf, concludedOf, outcomeBy, callOutcome}
 use Rattle.bessel.specs.Series.{visitedBy, visitAnswer, visitSteps, seriesOutcome}
 use Rattle.bessel.specs.I.{iOutcome}
@@ -56,11 +56,11 @@ unfolding argumentsOf normalisedOf modulusOf hypotOf ofBits ofInt round size neg
 prepared = refl
 
 series-admitted : verdictOf (seriesChecks origin 4) ≡ Admitted
-unfolding verdictOf verdictFrom refusedIf seriesChecks argumentChecks lengthChecks finiteChecks limitChecks lengthInside areFinite orderInside signInside partInside sizeInside beyondSeries orderPlusOne orderAt ofBits ofInt round size neg add mul eq le lt
+unfolding verdictOf verdictFrom refusedIf seriesChecks seriesOwnChecks argumentChecks lengthChecks finiteChecks limitChecks lengthInside areFinite orderInside signInside partInside sizeInside beyondSeries orderPlusOne orderAt ofBits ofInt round size neg add mul eq le lt
 series-admitted = refl
 
 k-refused : verdictOf (kChecks origin 2) ≡ Refused refusals.Zero
-unfolding verdictOf verdictFrom refusedIf kChecks argumentChecks lengthChecks finiteChecks limitChecks lengthInside areFinite orderInside signInside partInside sizeInside isZero ofBits neg eq le lt
+unfolding verdictOf verdictFrom refusedIf kChecks kOwnChecks argumentChecks lengthChecks finiteChecks limitChecks lengthInside areFinite orderInside signInside partInside sizeInside isZero ofBits neg eq le lt
 k-refused = refl
 
 -- ---- 02 00 0002 and zeros: I of 0, two entries, 1 and 0

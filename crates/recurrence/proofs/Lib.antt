@@ -3,7 +3,6 @@ pub mod ClimbFacts
 pub mod FillFacts
 pub mod FirstFacts
 pub mod LimitFacts
-pub mod Magnitudes
 pub mod RungFacts
 pub mod SearchFacts
 pub mod StateFacts

@@ -18,7 +18,7 @@ use Rattle.recurrence.specs.State.{reciprocalOf, boundaryOf, limitOf}
 use Rattle.recurrence.specs.Rung.{exceeds, passes}
 use Rattle.recurrence.specs.declared.state.OverflowState.{OverflowState}
 use Rattle.recurrence.specs.declared.state.OverflowState.the-variants.{NearUnder, None, NearOver}
-use Rattle.recurrence.proofs.Magnitudes.{above-magnitude}
+use Rattle.machine.proofs.MagnitudeFacts.{above-magnitude}
 use Rattle.recurrence.proofs.StateFacts.{boundary-positive}
 
 pub limit-positive : (s : OverflowState) → T (lt (ofBits binary64 0) (limitOf s))

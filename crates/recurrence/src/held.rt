@@ -6,9 +6,9 @@ ghost use lib.Dec.{T};
 ghost use lib.Ieee.{binary64, ofBits, lt};
 ghost use Rattle.recurrence.specs.Rung.{factorOf, nextOf};
 ghost use Rattle.recurrence.specs.shapes.Held.{notHeld, heldOf};
-use crate::rung::outside;
 use complex::number::Complex;
 use complex::number::zero_pair;
+use machine::magnitude::outside;
 
 // Whether the state stays at a value, and the value, which is zero where it does not.
 pub struct Held {

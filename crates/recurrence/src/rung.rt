@@ -5,7 +5,6 @@ ghost use mathlib.Core.Path.{_≡_};
 ghost use Prim.Native.Nat.{_+_, _<_, _^_};
 ghost use lib.Dec.{T};
 ghost use lib.Ieee.{binary64, ofBits, lt};
-ghost use Rattle.machine.specs.Magnitude.{magnitudeOf};
 ghost use Rattle.recurrence.specs.Rung.{factorOf, nextOf, exceeds, passes, movedClimb, rungOf};
 use crate::state::Climb;
 use crate::state::OverflowState;
@@ -15,17 +14,7 @@ use crate::state::moved_on;
 use crate::state::reciprocal;
 use crate::state::scale;
 use complex::number::Complex;
-
-// a magnitude above b, by two comparisons of the value itself
-pub fn outside(b: f64, x: f64) -> bool
-    requires { ⌜ T (lt (ofBits binary64 0) b) ⌝ }
-    ensures { λ r. ⌜ r ≡ lt b (magnitudeOf x) ⌝ }
-{
-    if x > b {
-        return true;
-    }
-    x < -b
-}
+use machine::magnitude::outside;
 
 fn beyond(b: f64, w: Complex) -> bool
     requires { ⌜ T (lt (ofBits binary64 0) b) ⌝ }

@@ -6,6 +6,7 @@ ghost use Prim.Native.Nat.{_<_};
 ghost use Rattle.temme.specs.Difference.{fractionSquare, withTerm, seriesOf, differenceOf};
 use machine::constants::Machine;
 use machine::magnitude::magnitude;
+use machine::magnitude::outside;
 
 const COEFFICIENTS: [f64; 8] = [
     0.5772156649015329,
@@ -69,7 +70,7 @@ pub fn difference(square: f64) -> f64
 pub fn fraction_square(fraction: f64) -> f64
     ensures { λ r. ⌜ r ≡ fractionSquare fraction ⌝ }
 {
-    if magnitude(fraction) > Machine::TOLERANCE {
+    if outside(Machine::TOLERANCE, fraction) {
         return fraction * fraction;
     }
     0.0

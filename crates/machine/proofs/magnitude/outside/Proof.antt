@@ -1,8 +1,8 @@
--- `recurrence::rung::outside` meets its contract: two comparisons for a magnitude. Assumes nothing.
+-- `machine::magnitude::outside` meets its contract: two comparisons for a magnitude. Assumes nothing.
 use mathlib.Core.Path.{sym, _∙_}
-use Rattle.recurrence.proofs.Magnitudes.{above-magnitude}
-use Rattle.recurrence.proofs.rung.outside.Statement.{statement}
-use Rattle.recurrence.proofs.rung.outside.Tie as tie
+use Rattle.machine.proofs.MagnitudeFacts.{above-magnitude}
+use Rattle.machine.proofs.magnitude.outside.Statement.{statement}
+use Rattle.machine.proofs.magnitude.outside.Tie as tie
 
 returns : tie.Need-returns
 returns c = let d = c .before in sym (above-magnitude (d .args .b) (d .args .x) (d .pre) ∙ rw (c .if1 .taken))

@@ -3,7 +3,7 @@
 use mathlib.Core.Bool.{Bool, _&&_, cond}
 use lib.Ieee.{Float, binary64, lt, le, mul}
 use Rattle.machine.specs.Constants.{absoluteApproximationLimit, inverseTolerance}
-pub use Rattle.machine.specs.Magnitude.{magnitudeOf}
+unfoldable pub use Rattle.machine.specs.Magnitude.{magnitudeOf}
 use Rattle.complex.specs.declared.number.Complex.{Complex}
 
 unfoldable pub lostBeside : Float → Float → Bool

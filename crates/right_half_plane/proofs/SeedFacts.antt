@@ -16,7 +16,7 @@ use Rattle.temme.specs.declared.seeds.Temme.{Temme}
 use Rattle.temme.specs.declared.sum.Terms.{Terms}
 use Rattle.temme.specs.Gammas.{gammasOf}
 use Rattle.temme.specs.Sum.{sumOf}
-use Rattle.temme.specs.Seeds.{shincOf, groundOf, startOf, summedOf, seedsOf}
+use Rattle.temme.specs.Seeds.{shincOf, fixedOf, startOf, summedOf, seedsOf}
 use Rattle.temme.proofs.TemmeBound.{seeds-terms}
 use Rattle.miller.specs.declared.seeds.MillerSeeds as found
 use Rattle.miller.specs.Seeds as miller

@@ -1,18 +1,18 @@
 -- The modulus against 2, by the parts alone: at most 2 where both magnitudes are at most 1.40625, and not where one is above 2.25, whatever the other is. Assumes nothing.
 use mathlib.Core.Path.{_≡_, refl, sym, ap, _∙_, subst}
 use mathlib.Core.Logic.{inl, inr}
-use mathlib.Core.Bool.{Bool, true, false, cond}
+use mathlib.Core.Bool.{Bool, true, false}
 use Prim.Native.Nat.{ℕ, zero, suc, _+_, _-_, _*_, _^_, _≤_, _<_}
 use native.Mathlib.Nat.{le-trans, le-of-eq, le-of-lt, mul-one, mul-assoc, mul-comm, mul-left-comm, mul-pos, mul-le-mul, mul-le-mul-left, mul-le-mul-right, le-of-mul-le-mul-right}
 use native.Mathlib.Omega.{arith}
-use lib.Dec.{T, ltb→lt, lit<, lit≤}
+use lib.Dec.{T, lit<, lit≤}
 use lib.Pow.{pow-pos}
-use lib.Ieee.{Float, nan, inf, fin, binary64, up, down, round, size, neg, add, mul, lt, le, ofBits, toBits, fits}
+use lib.Ieee.{Float, nan, inf, fin, binary64, up, down, round, size, add, mul, lt, le, eq, ofBits, toBits, fits}
 use lib.Ieee.Fits.{down-pos, add-fits}
 use lib.Ieee.Positive.{num, den, positive, den-pos}
 use lib.Ieee.Scale.{finite}
 use Rattle.laws.proofs.Value.{sign, bare, own-fraction}
-use Rattle.laws.proofs.Order.{nonneg, not-lt→le, lt→le}
+use Rattle.laws.proofs.Order.{lt→le}
 use Rattle.laws.proofs.Relative.{round-nonnegative, positive-nonnegative}
 use Rattle.laws.proofs.Bound.{AtLeast, Up, Lo, up-finite, up-test, lo-test, up-of-le, lo-at, lo-of-le, lo-weaken, lo-bound, lo-positive, lo-of-rat, up-lo-le, round-lo, mul-lo, add-lo}
 use Rattle.roots.specs.Hypot.{rootAt, sumOfSquares, leastSum, greatestSum, larger, smaller, scaledHypot, fullHypot, hypotOf}
@@ -27,14 +27,12 @@ use Rattle.roots.proofs.HypotFacts.{hypot-close}
 use Rattle.roots.proofs.HypotValues.{hypot-symmetric}
 use Rattle.complex.specs.declared.number.Complex.{Complex}
 use Rattle.complex.specs.Functions.{modulusOf}
-use Rattle.complex.specs.Lost.{magnitudeOf}
+use Rattle.machine.specs.Magnitude.{magnitudeOf}
+use Rattle.machine.proofs.MagnitudeFacts.{bare-is}
 use Rattle.right_half_plane.specs.Seeds.{two}
 use Rattle.right_half_plane.proofs.ModulusBound.{summed-is, modulus-up}
 
--- 0, 1.40625 and 2.25
-abbrev nothing : Float
-nothing = ofBits binary64 0
-
+-- 1.40625 and 2.25
 abbrev pub inner : Float
 inner = ofBits binary64 0x3FF6800000000000
 
@@ -57,43 +55,18 @@ outer-lo = lo-test outer 9 4 tt
 abbrev Inner : Float → Type 0
 Inner x = T (finite x) × (num x * 32 ≤ 45 * den x)
 
-inner-by : (x : Float) (b : Bool) → lt x nothing ≡ b → T (le (cond b (neg x) x) inner) → Inner x
-unfolding neg lt le ofBits
-inner-by nan true e h = absurd h
-inner-by nan false e h = absurd h
-inner-by (inf true) true e h = absurd h
-inner-by (inf true) false e h = absurd (subst T e tt)
-inner-by (inf false) true e h = absurd (subst T (sym e) tt)
-inner-by (inf false) false e h = absurd h
-inner-by (fin true m d) true e h = (tt, up-of-le (fin false m d) inner tt h inner-up .bound)
-inner-by (fin false m d) false e h = (tt, up-of-le (fin false m d) inner tt h inner-up .bound)
-inner-by (fin false m d) true e h = let l = ltb→lt _ _ (subst T (sym e) tt) in absurd (none (m * up d * 1) (down d) l)
-  where
-    none : (n d : ℕ) → n < 0 * 1 * d → ⊥
-    none n d h = omega arith
-inner-by (fin true m d) false e h = let z : m * up d ≡ 0 = nonneg (fin true m d) tt (not-lt→le (fin true m d) nothing tt tt e) in (tt, omega arith)
-
 inner-part : (x : Float) → T (le (magnitudeOf x) inner) → Inner x
-unfolding magnitudeOf
-inner-part x h = inner-by x (lt x nothing) refl h
+unfolding magnitudeOf lt le eq ofBits
+inner-part nan h = absurd h
+inner-part (inf s) h = absurd h
+inner-part (fin s m d) h = (tt, up-of-le (fin false m d) inner tt h inner-up .bound)
 
 -- infinite, or finite with a magnitude of 2.25 at least
 abbrev Outer : Float → Type 0
 Outer x = AtLeast (bare x) 9 4
 
-outer-by : (x : Float) (b : Bool) → Lo (cond b (neg x) x) 9 4 → Outer x
-unfolding neg
-outer-by nan true l = l .bound
-outer-by nan false l = l .bound
-outer-by (inf s) b l = tt
-outer-by (fin true m d) true l = l .bound
-outer-by (fin true m d) false l = absurd (l .bound)
-outer-by (fin false m d) true l = absurd (l .bound)
-outer-by (fin false m d) false l = l .bound
-
 outer-part : (x : Float) → T (lt outer (magnitudeOf x)) → Outer x
-unfolding magnitudeOf
-outer-part x h = let m = cond (lt x nothing) (neg x) x in outer-by x (lt x nothing) (lo-of-le m outer (lit< tt) (lt→le outer m h) outer-lo)
+outer-part x h = let m = magnitudeOf x in subst (λ (z : Float). AtLeast z 9 4) (sym (bare-is x)) (lo-of-le m outer (lit< tt) (lt→le outer m h) outer-lo .bound)
 
 -- ---- both parts at most 1.40625
 squared : (n d : ℕ) → n * 32 ≤ 45 * d → n * n * 1024 ≤ 2025 * (d * d)
@@ -259,7 +232,7 @@ not-within h l = go (le h two) refl
     go false e = e
 
 outer-two : (x y : Float) → T (fits binary64 x) → T (fits binary64 y) → Outer x → le (hypotOf x y) two ≡ false
-unfolding hypotOf le ofBits
+unfolding hypotOf magnitudeOf le ofBits
 outer-two nan y Fx Fy o = absurd o
 outer-two (inf s) y Fx Fy o = refl
 outer-two (fin s m e) nan Fx Fy o = refl

@@ -1,6 +1,6 @@
 #!/usr/bin/env python3
-"""digest.py all | ROUTINE..: the digest of what each routine's definition says, without comments and layout: its own file of specs/ and every file of specs/ that
-it stands on."""
+"""digest.py all | ROUTINE..: the digest of what each routine's definition says, without comments, imports and layout: its own file of specs/ and every file of specs/
+that it stands on."""
 import hashlib
 import os
 import re
@@ -32,6 +32,7 @@ def says(crate, module, seen):
     path = os.path.join(TOP, "crates", crate, "specs", module + ".antt")
     text = re.sub(r"--[^\n]*", "", open(path, encoding="utf-8").read())
     below = re.findall(r"^use Rattle·(\w+?)(?:·specs\.specs|\.specs)\.([A-Z]\w*)", text, flags=re.M)
+    text = re.sub(r"^use [^\n]*", "", text, flags=re.M)
     return "".join(says(c, m, seen) for c, m in below) + " ".join(text.split()) + "\n"
 
 

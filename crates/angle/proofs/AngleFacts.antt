@@ -100,17 +100,17 @@ at y x = toBits binary64 (angleOf (ofBits binary64 y) (ofBits binary64 x))
 -- 0, π/2, π, π/4, 3π/4 at (y, x) = (0, 1), (1, 0), (0, -1), (1, 1), (1, -1)
 pub angle-values : (at 0 0x3FF0000000000000 ∷ at 0x3FF0000000000000 0 ∷ at 0 0xBFF0000000000000 ∷ at 0x3FF0000000000000 0x3FF0000000000000 ∷ at 0x3FF0000000000000 0xBFF0000000000000 ∷ [])
     ≡ (0 ∷ 0x3FF921FB54442D18 ∷ 0x400921FB54442D18 ∷ 0x3FE921FB54442D18 ∷ 0x4002D97C7F3321D2 ∷ [])
-unfolding at angleOf upperOf turnedOf awayOf backOf quarterTurn halfTurn arcOf tabledArcOf joinedOf seriesOf tangentOf stepOf grid leading scaledOf loweredOf raisedOf times flat even infinity sidesOf largerOf smallerOf negative tabledOf atanHigh atanLow neg ofBits toBits isNan lt le eq add sub mul div
+unfolding at angleOf upperOf turnedOf awayOf backOf quarterTurn halfTurn arcOf tabledArcOf joinedOf seriesOf tangentOf stepOf grid leading scaledOf loweredOf raisedOf times flat even infinity sidesOf largerOf smallerOf magnitudeOf negative tabledOf atanHigh atanLow neg ofBits toBits isNan lt le eq add sub mul div
 angle-values = refl
 
 -- ±0 beside +0 is itself, and beside -0 it is ±π
 pub angle-zeros : (at 0 0 ∷ at 0x8000000000000000 0 ∷ at 0 0x8000000000000000 ∷ at 0x8000000000000000 0x8000000000000000 ∷ [])
     ≡ (0 ∷ 0x8000000000000000 ∷ 0x400921FB54442D18 ∷ 0xC00921FB54442D18 ∷ [])
-unfolding at angleOf upperOf turnedOf awayOf backOf quarterTurn halfTurn arcOf tabledArcOf joinedOf seriesOf tangentOf stepOf grid leading scaledOf loweredOf raisedOf times flat even infinity sidesOf largerOf smallerOf negative tabledOf atanHigh atanLow neg ofBits toBits isNan lt le eq add sub mul div
+unfolding at angleOf upperOf turnedOf awayOf backOf quarterTurn halfTurn arcOf tabledArcOf joinedOf seriesOf tangentOf stepOf grid leading scaledOf loweredOf raisedOf times flat even infinity sidesOf largerOf smallerOf magnitudeOf negative tabledOf atanHigh atanLow neg ofBits toBits isNan lt le eq add sub mul div
 angle-zeros = refl
 
 -- an infinity beside 1, and two infinities: 0, π, π/2, π/4, -3π/4; a not-a-number in either place
 pub angle-infinities : (at 0x3FF0000000000000 0x7FF0000000000000 ∷ at 0x3FF0000000000000 0xFFF0000000000000 ∷ at 0x7FF0000000000000 0x3FF0000000000000 ∷ at 0x7FF0000000000000 0x7FF0000000000000 ∷ at 0xFFF0000000000000 0xFFF0000000000000 ∷ at 0x7FF8000000000000 0 ∷ at 0 0x7FF8000000000000 ∷ [])
     ≡ (0 ∷ 0x400921FB54442D18 ∷ 0x3FF921FB54442D18 ∷ 0x3FE921FB54442D18 ∷ 0xC002D97C7F3321D2 ∷ 0x7FF8000000000000 ∷ 0x7FF8000000000000 ∷ [])
-unfolding at angleOf upperOf turnedOf awayOf backOf quarterTurn halfTurn arcOf tabledArcOf joinedOf seriesOf tangentOf stepOf grid leading scaledOf loweredOf raisedOf times flat even infinity sidesOf largerOf smallerOf negative tabledOf atanHigh atanLow neg ofBits toBits isNan lt le eq add sub mul div
+unfolding at angleOf upperOf turnedOf awayOf backOf quarterTurn halfTurn arcOf tabledArcOf joinedOf seriesOf tangentOf stepOf grid leading scaledOf loweredOf raisedOf times flat even infinity sidesOf largerOf smallerOf magnitudeOf negative tabledOf atanHigh atanLow neg ofBits toBits isNan lt le eq add sub mul div
 angle-infinities = refl

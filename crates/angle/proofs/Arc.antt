@@ -19,7 +19,7 @@ use Rattle.angle.proofs.Sides.{from-zero}
 use Rattle.angle.proofs.Step.{long-finite, long-positive, short-above, quotient-between, index-below, value-between}
 use Rattle.angle.specs.Angle.{leading, stepOf, tangentOf, seriesOf, joinedOf, tabledArcOf, arcOf}
 use Rattle.angle_tables.specs.Tables.{atanHigh, atanLow, tabledOf}
-use Rattle.angle.specs.Range.{lowest, highest, Ranged}
+use Rattle.angle.specs.shapes.Range.{lowest, highest, Ranged}
 use Rattle.angle.specs.declared.angle.Triangle.{Triangle}
 use Rattle.angle.specs.declared.angle.Tangent.{Tangent}
 use Rattle.angle_tables.specs.declared.tables.Sum.{Sum}

@@ -16,7 +16,7 @@ use Rattle.machine.specs.Small.{nothing}
 use Rattle.machine.proofs.MagnitudeFacts.{bare-is}
 use Rattle.angle.proofs.Ends.{bare-above, not-below, finite-of, positive-of, positive-above, at-most-largest, at-least-smallest}
 use Rattle.angle.specs.Angle.{infinity, negative, largerOf, smallerOf, sidesOf, times, flat, even, loweredOf, raisedOf, scaledOf}
-use Rattle.angle.specs.Range.{lowest, highest, Ordered, Ranged}
+use Rattle.angle.specs.shapes.Range.{lowest, highest, Ordered, Ranged}
 use Rattle.angle.specs.declared.angle.Triangle.{Triangle}
 
 -- ---- the constants as the laws have them

@@ -16,7 +16,7 @@ use Rattle.machine.specs.Small.{nothing, one}
 use Rattle.angle.proofs.Ends.{positive-above, quotient-at-most-one, quotient-at-least-zero}
 use Rattle.angle.proofs.Sides.{from-zero, to-zero}
 use Rattle.angle.specs.Angle.{grid, stepOf}
-use Rattle.angle.specs.Range.{lowest, highest, Ranged}
+use Rattle.angle.specs.shapes.Range.{lowest, highest, Ranged}
 use Rattle.angle.specs.declared.angle.Triangle.{Triangle}
 use Rattle.angle.specs.declared.angle.Step.{Step}
 

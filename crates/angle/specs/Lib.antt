@@ -1,2 +1,3 @@
+-- The definition. What stands in shapes is how it is computed, not what.
 pub mod Angle
-pub mod Range
+pub mod shapes

@@ -8,7 +8,7 @@ ghost use lib.Ieee.{isNan, le};
 ghost use Rattle.machine.specs.Small.{nothing, one};
 ghost use Rattle.angle.specs.Angle.{negative, leading, largerOf, smallerOf, sidesOf, loweredOf, raisedOf, scaledOf};
 ghost use Rattle.angle.specs.Angle.{stepOf, tangentOf, seriesOf, joinedOf, tabledArcOf, arcOf, turnedOf, awayOf, upperOf, angleOf};
-ghost use Rattle.angle.specs.Range.{Ranged};
+ghost use Rattle.angle.specs.shapes.Range.{Ranged};
 use angle_tables::tables::Sum;
 use angle_tables::tables::tabled;
 use machine::constants;

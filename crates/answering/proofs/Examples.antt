@@ -10,6 +10,7 @@ use lib.Ieee.{Float, binary64, ofBits, toBits, ofInt, round, size, neg, add, mul
 use Rattle.machine.specs.Constants.{underflowLimit}
 use Rattle.refusal.specs.declared.refusal.Refusal.the-variants as refusals
 use Rattle.roots.specs.Hypot.{hypotOf}
+use Rattle.machine.specs.Magnitude.{magnitudeOf}
 use Rattle.complex.specs.Functions.{modulusOf}
 use Rattle.series_step.specs.Setting.{orderAt, orderPlusOne}
 use Rattle.power_series.specs.Series.{beyondSeries}
@@ -52,7 +53,7 @@ abbrev origin : Arguments
 origin = record { order = nought; z = record { re = nought; im = nought }; modulus = nought }
 
 prepared : argumentsOf nought nought nought ≡ origin
-unfolding argumentsOf normalisedOf modulusOf hypotOf ofBits ofInt round size neg add mul eq le lt
+unfolding argumentsOf normalisedOf modulusOf hypotOf magnitudeOf ofBits ofInt round size neg add mul eq le lt
 prepared = refl
 
 series-admitted : verdictOf (seriesChecks origin 4) ≡ Admitted
@@ -78,7 +79,7 @@ abbrev one-and-nought : Outcome
 one-and-nought = record { answer = answeredOf (pos 0) 0 0 0; cells = ofBits binary64 0x3FF0000000000000 ∷ nought ∷ nought ∷ nought ∷ [] }
 
 visited : concludedOf 4 (visitSteps (visitedBy false false origin 4)) ≡ one-and-nought
-unfolding concludedOf visitSteps visitedBy visitAnswer judgedOf judgedIf allFinite powerSeriesOf powerSeriesIf tinyOf lowestOf zerosOf orderPlusOne orderAt underflowLimit ofBits ofInt round size neg add mul eq le lt
+unfolding concludedOf visitSteps visitedBy visitAnswer judgedOf judgedIf allFinite powerSeriesOf powerSeriesIf tinyOf lowestOf zerosOf orderPlusOne orderAt magnitudeOf underflowLimit ofBits ofInt round size neg add mul eq le lt
 visited = refl
 
 first-called : calledOf asking 4 ≡ one-and-nought

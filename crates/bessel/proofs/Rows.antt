@@ -16,6 +16,7 @@ use Rattle.call.specs.Limits.{normalisedOf, lengthInside, areFinite, orderInsid
 use Rattle.call.specs.Checks.{Check, refusedIf, verdictFrom, verdictOf, lengthChecks, finiteChecks, limitChecks}
 use Rattle.call.proofs.FirstFacts.{verdict-append, stays}
 use Rattle.roots.specs.Hypot.{hypotOf}
+use Rattle.machine.specs.Magnitude.{magnitudeOf}
 use Rattle.complex.specs.Functions.{modulusOf}
 use Rattle.series_step.specs.Setting.{orderAt, orderPlusOne}
 use Rattle.power_series.specs.Series.{beyondSeries}
@@ -31,17 +32,17 @@ use Rattle.bessel.specs.K.{kSteps, kOutcome}
 
 -- ---- I at z = 0, v = 1, n = 2: zeros, and none is counted
 pub at-zero : (scaled : Bool) → iOutcome scaled one nothing nothing 4 ≡ record { answer = answeredOf (pos 0) 0 0 0; cells = nothing ∷ nothing ∷ nothing ∷ nothing ∷ [] }
-unfolding iOutcome seriesOutcome visitedBy visitSteps visitAnswer judgedOf judgedIf allFinite callOutcome outcomeBy concludedOf verdictOf verdictFrom refusedIf seriesChecks seriesOwnChecks argumentChecks lengthChecks finiteChecks limitChecks argumentsOf normalisedOf lengthInside areFinite orderInside signInside partInside sizeInside beyondSeries orderPlusOne orderAt powerSeriesOf powerSeriesIf tinyOf lowestOf zerosOf modulusOf hypotOf underflowLimit ofBits ofInt round size neg add mul eq le lt
+unfolding iOutcome seriesOutcome visitedBy visitSteps visitAnswer judgedOf judgedIf allFinite callOutcome outcomeBy concludedOf verdictOf verdictFrom refusedIf seriesChecks seriesOwnChecks argumentChecks lengthChecks finiteChecks limitChecks argumentsOf normalisedOf lengthInside areFinite orderInside signInside partInside sizeInside beyondSeries orderPlusOne orderAt powerSeriesOf powerSeriesIf tinyOf lowestOf zerosOf modulusOf hypotOf magnitudeOf underflowLimit ofBits ofInt round size neg add mul eq le lt
 at-zero scaled = refl
 
 -- ---- I at z = 2^-1040, v = 0, n = 3: 1, 0, 0, and two are counted
 pub near-zero : (scaled : Bool) → iOutcome scaled nothing (ofBits binary64 0x0000000400000000) nothing 6 ≡ record { answer = answeredOf (pos 2) 0 0 0; cells = one ∷ nothing ∷ nothing ∷ nothing ∷ nothing ∷ nothing ∷ [] }
-unfolding iOutcome seriesOutcome visitedBy visitSteps visitAnswer judgedOf judgedIf allFinite callOutcome outcomeBy concludedOf verdictOf verdictFrom refusedIf seriesChecks seriesOwnChecks argumentChecks lengthChecks finiteChecks limitChecks argumentsOf normalisedOf lengthInside areFinite orderInside signInside partInside sizeInside beyondSeries orderPlusOne orderAt powerSeriesOf powerSeriesIf tinyOf lowestOf zerosOf modulusOf hypotOf underflowLimit ofBits ofInt round size neg add mul eq le lt
+unfolding iOutcome seriesOutcome visitedBy visitSteps visitAnswer judgedOf judgedIf allFinite callOutcome outcomeBy concludedOf verdictOf verdictFrom refusedIf seriesChecks seriesOwnChecks argumentChecks lengthChecks finiteChecks limitChecks argumentsOf normalisedOf lengthInside areFinite orderInside signInside partInside sizeInside beyondSeries orderPlusOne orderAt powerSeriesOf powerSeriesIf tinyOf lowestOf zerosOf modulusOf hypotOf magnitudeOf underflowLimit ofBits ofInt round size neg add mul eq le lt
 near-zero scaled = refl
 
 -- ---- I at z = 4, v = 0, n = 1: refusal 5
 pub beyond : (scaled : Bool) → iOutcome scaled nothing (ofBits binary64 0x4010000000000000) nothing 2 ≡ refusedOutcome Series 2
-unfolding iOutcome seriesOutcome callOutcome outcomeBy concludedOf verdictOf verdictFrom refusedIf seriesChecks seriesOwnChecks argumentChecks lengthChecks finiteChecks limitChecks argumentsOf normalisedOf lengthInside areFinite orderInside signInside partInside sizeInside beyondSeries orderPlusOne orderAt modulusOf hypotOf ofBits ofInt round size neg add mul eq le lt
+unfolding iOutcome seriesOutcome callOutcome outcomeBy concludedOf verdictOf verdictFrom refusedIf seriesChecks seriesOwnChecks argumentChecks lengthChecks finiteChecks limitChecks argumentsOf normalisedOf lengthInside areFinite orderInside signInside partInside sizeInside beyondSeries orderPlusOne orderAt modulusOf hypotOf magnitudeOf ofBits ofInt round size neg add mul eq le lt
 beyond scaled = refl
 
 -- ---- a refusal by the checks that K shares is the outcome of K

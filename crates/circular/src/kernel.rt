@@ -52,7 +52,8 @@ pub fn cosine(hi: f64, lo: f64) -> f64
 
 // Only the kernel that is asked for is worked out.
 pub fn sine_at(angle: Reduced, quarter: u64) -> f64
-    ensures { λ r. ⌜ r ≡ turned neg quarter (sineKernel (angle .hi) (angle .lo)) (cosineKernel (angle .hi) (angle .lo)) ⌝ }
+    ensures { λ r. ⌜ r ≡ turned neg quarter (sineKernel (angle .hi) (angle .lo))
+        (cosineKernel (angle .hi) (angle .lo)) ⌝ }
 {
     let y = if quarter % 2 == 0 {
         sine(angle.hi, angle.lo)
@@ -64,7 +65,8 @@ pub fn sine_at(angle: Reduced, quarter: u64) -> f64
 
 // The same with `0.0 - y` for -y, so that a zero stays +0.
 pub fn sine_pi_at(angle: Reduced, quarter: u64) -> f64
-    ensures { λ r. ⌜ r ≡ turned fromZero quarter (sineKernel (angle .hi) (angle .lo)) (cosineKernel (angle .hi) (angle .lo)) ⌝ }
+    ensures { λ r. ⌜ r ≡ turned fromZero quarter (sineKernel (angle .hi) (angle .lo))
+        (cosineKernel (angle .hi) (angle .lo)) ⌝ }
 {
     let y = if quarter % 2 == 0 {
         sine(angle.hi, angle.lo)

@@ -1,8 +1,7 @@
 // sin x and cos x together: one reduction and both kernels.
-// Promised: the bits of sinOf and of cosOf for every x.
+// Promised: the bits of sinCosOf for every x.
 ghost use mathlib.Core.Path.{_≡_};
-ghost use Rattle.circular.specs.Sin.{sinOf};
-ghost use Rattle.circular.specs.Cos.{cosOf};
+ghost use Rattle.circular.specs.SinCos.{sinCosOf};
 use crate::kernel::cosine;
 use crate::kernel::sine;
 use crate::reduce::reduce;
@@ -16,7 +15,7 @@ pub struct SinCos {
 }
 
 pub fn sin_cos(x: f64) -> SinCos
-    ensures { λ r. ⌜ (r .sin ≡ sinOf x) × (r .cos ≡ cosOf x) ⌝ }
+    ensures { λ r. ⌜ r ≡ sinCosOf x ⌝ }
 {
     if x != x {
         return SinCos {

@@ -1,22 +1,22 @@
 -- Which pairs are lost: the three examples of the scope, by computation, and no pair with a not-a-number part. Assumes nothing.
 use mathlib.Core.Path.{_≡_, refl}
 use mathlib.Core.Bool.{Bool, true, false, _&&_}
-use lib.Ieee.{Float, nan, inf, fin, binary64, ofBits, neg, lt, le, mul}
+use lib.Ieee.{Float, nan, inf, fin, binary64, ofBits, lt, le, mul}
 use Rattle.machine.specs.Constants.{absoluteApproximationLimit, inverseTolerance}
 use Rattle.machine.specs.Magnitude.{magnitudeOf}
 use Rattle.complex.specs.Lost.{lostBeside, lostOf}
 
 pub zero-not-lost : lostOf (record { re = ofBits binary64 0; im = ofBits binary64 0 }) ≡ false
-unfolding lostOf lostBeside absoluteApproximationLimit inverseTolerance ofBits neg lt le mul
+unfolding lostOf lostBeside magnitudeOf absoluteApproximationLimit inverseTolerance ofBits lt le mul
 zero-not-lost = refl
 
 pub one-not-lost : lostOf (record { re = ofBits binary64 0x3FF0000000000000; im = ofBits binary64 0 }) ≡ false
-unfolding lostOf lostBeside absoluteApproximationLimit inverseTolerance ofBits neg lt le mul
+unfolding lostOf lostBeside magnitudeOf absoluteApproximationLimit inverseTolerance ofBits lt le mul
 one-not-lost = refl
 
 -- 2^-980
 pub small-lost : lostOf (record { re = ofBits binary64 0x02B0000000000000; im = ofBits binary64 0x02B0000000000000 }) ≡ true
-unfolding lostOf lostBeside absoluteApproximationLimit inverseTolerance ofBits neg lt le mul
+unfolding lostOf lostBeside magnitudeOf absoluteApproximationLimit inverseTolerance ofBits lt le mul
 small-lost = refl
 
 -- ---- a not-a-number part
@@ -43,9 +43,9 @@ unfolding lostBeside le lt
 nan-beside b = refl
 
 pub nan-re-not-lost : (y : Float) → lostOf (record { re = nan; im = y }) ≡ false
-unfolding lostOf
+unfolding lostOf magnitudeOf
 nan-re-not-lost y = rw lt-nan (nan-beside (magnitudeOf y))
 
 pub nan-im-not-lost : (x : Float) → lostOf (record { re = x; im = nan }) ≡ false
-unfolding lostOf lt
+unfolding lostOf magnitudeOf lt
 nan-im-not-lost x = beside-nan (magnitudeOf x)

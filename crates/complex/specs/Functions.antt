@@ -1,11 +1,9 @@
 -- The functions of a complex number, by their real formulas: the scope's section Arithmetic, after num's complex::Complex. In Algorithm 644
 -- the modulus is XZABS, ln XZLOG, the root XZSQRT, e^z XZEXP, cosh and sinh ZSHCH. Definitions only.
 -- A function of the modulus and the angle is defined on these two first: a caller may have them already.
-use Prim.Native.Nat.{ℕ}
 use lib.Ieee.{Float}
-use Rattle.laws.specs.Iterate.{iterate}
 use Rattle.laws.specs.Operators.{_⊗_, _⊘_}
-use Rattle.machine.specs.Small.{nothing, one, two}
+use Rattle.machine.specs.Small.{one, two}
 use Rattle.exponential.specs.Exp.{expOf}
 use Rattle.exponential.specs.Cosh.{coshOf}
 use Rattle.exponential.specs.Sinh.{sinhOf}
@@ -15,7 +13,8 @@ use Rattle.circular.specs.Cos.{cosOf}
 use Rattle.angle.specs.Angle.{angleOf}
 use Rattle.roots.specs.Hypot.{hypotOf}
 use Rattle.complex.specs.declared.number.Complex.{Complex}
-use Rattle.complex.specs.Arithmetic.{plusOf, conjugateOf, productOf, timesReal}
+use Rattle.complex.specs.Arithmetic.{plusOf, conjugateOf, timesReal}
+unfoldable pub use Rattle.complex.specs.Power.{powerOf}
 
 -- ---- of the modulus and the angle
 unfoldable pub modulusOf : Complex → Float
@@ -55,7 +54,3 @@ complexCoshOf z = record { re = coshOf (z .re) ⊗ cosOf (z .im); im = sinhOf (z
 
 unfoldable pub complexSinhOf : Complex → Complex
 complexSinhOf z = record { re = sinhOf (z .re) ⊗ cosOf (z .im); im = coshOf (z .re) ⊗ sinOf (z .im) }
-
--- ---- powers: as many products in a row, starting from 1
-unfoldable pub powerOf : Complex → ℕ → Complex
-powerOf z i = iterate i (λ p. productOf p z) (record { re = one; im = nothing })

@@ -2,3 +2,4 @@
 pub mod Arithmetic
 pub mod Functions
 pub mod Lost
+pub mod Power

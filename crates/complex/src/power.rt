@@ -1,7 +1,7 @@
 // The square of a complex number, as a power: two products in a row, starting from 1. From num's powu.
-// Promised: powerOf of specs/Functions.antt at 2. The first factor 1 counts: beside (1, 0) an imaginary part of -0 becomes +0.
+// Promised: powerOf of specs/Power.antt at 2. The first factor 1 counts: beside (1, 0) an imaginary part of -0 becomes +0.
 ghost use mathlib.Core.Path.{_≡_};
-ghost use Rattle.complex.specs.Functions.{powerOf};
+ghost use Rattle.complex.specs.Power.{powerOf};
 use crate::number::Complex;
 
 pub fn square(z: Complex) -> Complex

@@ -11,6 +11,7 @@ use Rattle.machine.specs.Magnitude.{magnitudeOf}
 
 -- ---- by the pattern
 pub bare-is : (x : Float) → bare x ≡ magnitudeOf x
+unfolding magnitudeOf
 bare-is nan = refl
 bare-is (inf s) = refl
 bare-is (fin s m e) = refl
@@ -19,7 +20,7 @@ pub magnitude-is : (x : Float) → T (fits binary64 x) → ofBits binary64 (toBi
 magnitude-is x F = ofBits-bare (toBits binary64 x) ∙ ap bare (ofBits-toBits binary64 x F) ∙ bare-is x
 
 magnitude-number : (x : Float) → T (not (isNan x)) → T (not (isNan (magnitudeOf x)))
-unfolding isNan
+unfolding isNan magnitudeOf
 magnitude-number nan h = h
 magnitude-number (inf s) h = tt
 magnitude-number (fin s m e) h = tt
@@ -33,7 +34,7 @@ or-false true = refl
 or-false false = refl
 
 pub above-magnitude : (b x : Float) → T (lt (ofBits binary64 0) b) → lt b (magnitudeOf x) ≡ lt b x || lt x (neg b)
-unfolding ofBits lt neg
+unfolding magnitudeOf ofBits lt neg
 above-magnitude nan x h = absurd h
 above-magnitude (inf true) x h = absurd h
 above-magnitude (inf false) nan h = refl

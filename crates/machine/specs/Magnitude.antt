@@ -2,7 +2,7 @@
 use mathlib.Core.Bool.{false}
 use lib.Ieee.{Float, nan, inf, fin}
 
-abbrev pub magnitudeOf : Float → Float
+unfoldable pub magnitudeOf : Float → Float
 magnitudeOf nan = nan
 magnitudeOf (inf s) = inf false
 magnitudeOf (fin s m e) = fin false m e

@@ -12,7 +12,7 @@ use Rattle.miller.specs.Trials.{nextTrial, trialAfter, trialsTaken, tria
 
 -- a value above zero is its own magnitude
 pub magnitude-above : (p : Float) → T (lt (ofBits binary64 0) p) → magnitudeOf p ≡ p
-unfolding ofBits lt
+unfolding magnitudeOf ofBits lt
 magnitude-above nan h = absurd h
 magnitude-above (inf true) h = absurd h
 magnitude-above (inf false) h = refl

@@ -15,6 +15,7 @@ use lib.Ieee.Scale.{finite}
 use Rattle.laws.proofs.Value.{sign, own-fraction}
 use Rattle.laws.proofs.Relative.{round-finite, round-nonnegative, positive-nonnegative}
 use Rattle.laws.proofs.Bound.{Up, Lo, up-test, lo-test, up-weaken, up-of-le, up-finite, lo-of-le, lo-bound, lo-positive, up-lo-le, range-test, mul-up, add-up}
+use Rattle.machine.specs.Magnitude.{magnitudeOf}
 use Rattle.roots.specs.Hypot.{rootAt, sumOfSquares, leastSum, greatestSum, larger, smaller, scaledHypot, fullHypot, hypotOf}
 use Rattle.roots.proofs.HypotCases.{full-within, full-above, full-below}
 use Rattle.roots.proofs.HypotSum.{Summed, square-round}
@@ -122,7 +123,7 @@ plain : (n d : ℕ) → n ≤ 2 ^ 15 * d → n * 1 ≤ 2 ^ 16 * d
 plain n d h = omega arith
 
 pub modulus-up : (x y : Float) → T (fits binary64 x) → T (fits binary64 y) → T (finite x) → T (finite y) → num x ≤ 2 ^ 15 * den x → num y ≤ 2 ^ 15 * den y → Up (hypotOf x y) (2 ^ 16) 1
-unfolding hypotOf
+unfolding hypotOf magnitudeOf
 modulus-up nan y Fx Fy fx fy bx by = absurd fx
 modulus-up (inf s) y Fx Fy fx fy bx by = absurd fx
 modulus-up (fin s m e) nan Fx Fy fx fy bx by = absurd fy

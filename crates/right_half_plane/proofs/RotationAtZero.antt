@@ -16,7 +16,7 @@ cosine false = cosPi-zero
 cosine true = cosPi-zero
 
 magnitude-of-one : magnitudeOf one ≡ one
-unfolding ofBits
+unfolding magnitudeOf ofBits
 magnitude-of-one = refl
 
 signed : (s : Bool) → rotationOf (zeroOf s) ≡ one

@@ -1,18 +1,18 @@
 -- The modulus against 2, by the parts alone: at most 2 where both magnitudes are at most 1.40625, and not where one is above 2.25, whatever the other is. Assumes nothing.
 use mathlib.Core.Path.{_≡_, refl, sym, ap, _∙_, subst}
 use mathlib.Core.Logic.{inl, inr}
-use mathlib.Core.Bool.{Bool, true, false, cond}
+use mathlib.Core.Bool.{Bool, true, false}
 use Prim.Native.Nat.{ℕ, zero, suc, _+_, _-_, _*_, _^_, _≤_, _<_}
 use native.Mathlib.Nat.{le-trans, le-of-eq, le-of-lt, mul-one, mul-assoc, mul-comm, mul-left-comm, mul-pos, mul-le-mul, mul-le-mul-left, mul-le-mul-right, le-of-mul-le-mul-right}
 use native.Mathlib.Omega.{arith}
-use lib.Dec.{T, ltb→lt, lit<, lit≤}
+use lib.Dec.{T, lit<, lit≤}
 use lib.Pow.{pow-pos}
 use lib.Ieee.{Float, nan, inf, fin, binary64, up, down, round, size, neg, add, mul, lt, le, eq, ofBits, toBits, fits}
 use lib.Ieee.Fits.{down-pos, add-fits}
 use lib.Ieee.Positive.{num, den, positive, den-pos}
 use lib.Ieee.Scale.{finite}
 use Rattle.laws.proofs.Value.{sign, bare, own-fraction}
-use Rattle.laws.proofs.Order.{nonneg, not-lt→le, lt→le}
+use Rattle.laws.proofs.Order.{lt→le}
 use Rattle.laws.proofs.Relative.{round-nonnegative, positive-nonnegative}
 use Rattle.laws.proofs.Bound.{AtLeast, Up, Lo, up-finite, up-test, lo-test, up-of-le, lo-at, lo-of-le, lo-weaken, lo-bound, lo-positive, lo-of-rat, up-lo-le, round-lo, mul-lo, add-lo}
 use Rattle.roots.specs.Hypot.{rootAt, sumOfSquares, leastSum, greatestSum, larger, smaller, scaledHypot, fullHypot, hypotOf}
@@ -56,7 +56,7 @@ abbrev Inner : Float → Type 0
 Inner x = T (finite x) × (num x * 32 ≤ 45 * den x)
 
 inner-part : (x : Float) → T (le (magnitudeOf x) inner) → Inner x
-unfolding lt le eq ofBits
+unfolding magnitudeOf lt le eq ofBits
 inner-part nan h = absurd h
 inner-part (inf s) h = absurd h
 inner-part (fin s m d) h = (tt, up-of-le (fin false m d) inner tt h inner-up .bound)
@@ -224,7 +224,7 @@ not-within h l = go (le h two) refl
     go false e = e
 
 outer-two : (x y : Float) → T (fits binary64 x) → T (fits binary64 y) → Outer x → le (hypotOf x y) two ≡ false
-unfolding hypotOf le ofBits
+unfolding hypotOf magnitudeOf le ofBits
 outer-two nan y Fx Fy o = absurd o
 outer-two (inf s) y Fx Fy o = refl
 outer-two (fin s m e) nan Fx Fy o = refl

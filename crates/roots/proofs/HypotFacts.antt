@@ -14,6 +14,7 @@ use lib.Ieee.Scale.{finite}
 use Rattle.laws.proofs.Value.{sign, own-fraction}
 use Rattle.laws.proofs.Power.{mul-value}
 use Rattle.laws.proofs.Relative.{Rat, positive-nonnegative, nonnegative-value, round-nonnegative, rat-refl, rat-of-eq, rat-mul, rat-trans, rat-weaken, rat-left, rat-right}
+use Rattle.machine.specs.Magnitude.{magnitudeOf}
 use Rattle.roots.specs.Hypot.{rootAt, sumOfSquares, leastSum, greatestSum, larger, smaller, scaledHypot, fullHypot, hypotOf}
 use Rattle.roots.specs.Close.{squaresOver, squaresUnder, NormalValue, SquareClose}
 use Rattle.roots.proofs.Mixed.{round-mixed, mixed-normal}
@@ -133,7 +134,7 @@ zero-second : (e : ℤ) (n : ℕ) (d : ℕ) → 0 < d → Rat 1 1 1 (n * n) (d *
 zero-second e n d p = rat-of-eq (n * n) (d * d) (n * n * (down e * down e) + 0 * up e * (0 * up e) * (d * d)) (d * d * (down e * down e)) (simp (zero-mul, add-zero, mul-assoc, mul-comm, mul-left-comm))
 
 close : (x y : Float) → T (fits binary64 x) → T (fits binary64 y) → T (finite x) → T (finite y) → NormalValue (hypotOf x y) → Near40 (hypotOf x y) x y
-unfolding hypotOf
+unfolding hypotOf magnitudeOf
 close nan y Fx Fy fx fy n = absurd fx
 close (inf s) y Fx Fy fx fy n = absurd fx
 close (fin s m e) nan Fx Fy fx fy n = absurd fy

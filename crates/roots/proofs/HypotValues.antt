@@ -17,7 +17,7 @@ use Rattle.roots.specs.Hypot.{rootAt, sumOfSquares, leastSum, greatestSu
 
 -- ---- a zero part
 pub hypot-zero-left : (s : Bool) (y : Float) (e : ℤ) → hypotOf (fin s 0 e) y ≡ magnitudeOf y
-unfolding hypotOf
+unfolding hypotOf magnitudeOf
 hypot-zero-left s nan e = refl
 hypot-zero-left s (inf t) e = refl
 hypot-zero-left s (fin t n d) e = refl
@@ -32,7 +32,7 @@ zero-same s t e d F G =
     at k = (refl, ap (λ (t : ℕ). t * 1) (zero-mul (up k)) ∙ sym (zero-mul (down k)))
 
 pub hypot-zero-right : (x : Float) (t : Bool) (d : ℤ) → T (fits binary64 x) → T (fits binary64 (fin t 0 d)) → hypotOf x (fin t 0 d) ≡ magnitudeOf x
-unfolding hypotOf
+unfolding hypotOf magnitudeOf
 hypot-zero-right nan t d F G = refl
 hypot-zero-right (inf s) t d F G = refl
 hypot-zero-right (fin s zero e) t d F G = zero-same t s d e G F
@@ -56,7 +56,7 @@ full-neg x y =
     ∙ ap (λ (z : Float). cond (le leastSum (sumOfSquares x y)) (cond (le (sumOfSquares x y) greatestSum) (rootAt (toBits binary64 (sumOfSquares x y))) (scaledHypot smaller larger x y)) z) (scaled-neg larger smaller x y)
 
 pub hypot-even : (x y : Float) → hypotOf (neg x) y ≡ hypotOf x y
-unfolding hypotOf neg
+unfolding hypotOf magnitudeOf neg
 hypot-even nan y = refl
 hypot-even (inf s) y = refl
 hypot-even (fin s m e) nan = refl
@@ -82,7 +82,7 @@ full-swap x y =
     ∙ ap (λ (z : Float). cond (le leastSum (sumOfSquares y x)) (cond (le (sumOfSquares y x) greatestSum) (rootAt (toBits binary64 (sumOfSquares y x))) (scaledHypot smaller larger y x)) z) (scaled-swap larger smaller x y)
 
 pub hypot-symmetric : (x y : Float) → T (fits binary64 x) → T (fits binary64 y) → hypotOf x y ≡ hypotOf y x
-unfolding hypotOf
+unfolding hypotOf magnitudeOf
 hypot-symmetric nan nan F G = refl
 hypot-symmetric nan (inf t) F G = refl
 hypot-symmetric nan (fin t n d) F G = refl

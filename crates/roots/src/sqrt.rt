@@ -23,7 +23,10 @@ fn one_if_below(a: u64, b: u64) -> u64
 // whole multiples of 2^52 taken off, all fits 64 bits.
 // No comparison is a branch: of 400,000 estimates one in four was off by 1, and a branch on that is guessed wrong.
 fn corrected(n: u64, e: u64) -> u64
-    requires { ⌜ (2 ^ 52 ≤ n) × (n < 2 ^ 54) × (nearestRoot 53 (n * 2 ^ 52) ≤ e + 2) × (e ≤ nearestRoot 53 (n * 2 ^ 52) + 2) ⌝ }
+    requires { ⌜ (2 ^ 52 ≤ n)
+        × (n < 2 ^ 54)
+        × (nearestRoot 53 (n * 2 ^ 52) ≤ e + 2)
+        × (e ≤ nearestRoot 53 (n * 2 ^ 52) + 2) ⌝ }
     ensures { λ r. ⌜ r ≡ nearestRoot 53 (n * 2 ^ 52) ⌝ }
 {
     let h = e / 0x4000000;
@@ -40,7 +43,8 @@ fn corrected(n: u64, e: u64) -> u64
 
 // The f64 steps, to 2 units: twice the root lies near [2, 4), where one pattern more is one unit of the root's 53 digits more.
 fn estimate(u: u64) -> u64
-    ensures { λ r. ⌜ (nearestRoot 53 (scaled (folded u) * 2 ^ 52) ≤ r + 2) × (r ≤ nearestRoot 53 (scaled (folded u) * 2 ^ 52) + 2) ⌝ }
+    ensures { λ r. ⌜ (nearestRoot 53 (scaled (folded u) * 2 ^ 52) ≤ r + 2)
+        × (r ≤ nearestRoot 53 (scaled (folded u) * 2 ^ 52) + 2) ⌝ }
 {
     f64::to_bits(twice_root(u)) - 0x3FF0000000000000
 }

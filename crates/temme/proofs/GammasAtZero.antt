@@ -10,6 +10,7 @@ use Rattle.exponential.proofs.ExpFacts.{exp-at-minus-zero}
 use Rattle.temme.specs.declared.gammas.Gammas.{Gammas}
 use Rattle.temme.specs.Difference.{differenceOf}
 use Rattle.temme.specs.Gammas.{oneOverSinc, differenceQuotient, gammasOf}
+use Rattle.machine.specs.Magnitude.{magnitudeOf}
 use Rattle.machine.specs.Small.{half, one}
 use Rattle.laws.proofs.Zero.{zeroOf, zero-is}
 
@@ -36,7 +37,7 @@ unfolding ofBits add mul
 mean-at-zero = refl
 
 quotient-at-zero : (s : Bool) (w : Float) → differenceQuotient (zeroOf s) w one one ≡ differenceOf w
-unfolding differenceQuotient ofBits le lt eq
+unfolding differenceQuotient magnitudeOf ofBits le lt eq
 quotient-at-zero true w = refl
 quotient-at-zero false w = refl
 

@@ -10,13 +10,14 @@ use Rattle.laws.proofs.Bound.{Up, up-of, up-of-le}
 use Rattle.machine.specs.Magnitude.{magnitudeOf}
 
 pub magnitude-bare : (z : Float) → T (nonnegative z) → magnitudeOf z ≡ z
+unfolding magnitudeOf
 magnitude-bare nan p = absurd p
 magnitude-bare (inf s) p = absurd p
 magnitude-bare (fin true m e) p = absurd p
 magnitude-bare (fin false m e) p = refl
 
 pub magnitude-up : (v b : Float) → T (nonnegative b) → T (le (magnitudeOf v) b) → (u : Float) × ((v ≡ u) ⊎ (v ≡ neg u)) × Up u (num b) (den b)
-unfolding lt le eq neg
+unfolding magnitudeOf lt le eq neg
 magnitude-up v nan p h = absurd p
 magnitude-up v (inf s) p h = absurd p
 magnitude-up v (fin true n d) p h = absurd p

@@ -7,7 +7,8 @@ use Rattle.machine.specs.Constants.{tolerance}
 use Rattle.machine.specs.Small.{nothing, quarter, half, one}
 use Rattle.complex.specs.declared.number.Complex.{Complex}
 use Rattle.complex.specs.Arithmetic.{plusOf, timesReal, overReal, realOver}
-use Rattle.complex.specs.Functions.{complexExpOf, complexCoshOf, complexSinhOf, powerOf}
+use Rattle.complex.specs.Functions.{complexExpOf, complexCoshOf, complexSinhOf}
+use Rattle.complex.specs.Power.{powerOf}
 use Rattle.temme.specs.declared.gammas.Gammas.{Gammas}
 use Rattle.temme.specs.declared.sum.Fixed.{Fixed}
 use Rattle.temme.specs.declared.sum.Terms.{Terms}

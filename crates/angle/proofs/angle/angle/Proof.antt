@@ -40,7 +40,9 @@ upper-requires c κs =
     (c .before .before .magnitude .ensures) (c .before .magnitude2 .ensures)
 
 is-negative-requires-2 : tie.Need-is-negative-requires-2
-is-negative-requires-2 c κs = equals-itself (c .before .before .before .before .before .before .args .y) (c .before .before .before .before .before .if1 .left)
+is-negative-requires-2 c κs =
+    let d = c .before .before .before .before .before in
+    equals-itself (d .before .args .y) (d .if1 .left)
 
 -- what the calls give, where neither part is a not-a-number
 returns-3 : tie.Need-returns-3

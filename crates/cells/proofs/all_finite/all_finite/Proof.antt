@@ -38,11 +38,12 @@ loop-less c = omega arith
 
 loop-again : tie.Need-loop-again Inv-loop μ-loop
 loop-again c =
-    let d = c .before .before .before .before in
+    let e = c .before .before .before in
+    let d = e .before in
     d .loop .inv
     ∙ ⊎-elim
-    (λ w. rw (w .1) (all-lost _ (d .loop .i) _ (d .loop .all) (c .before .before .before .loop-test .taken) (sym (c .before .is-finite .ensures) ∙ not-true _ (w .0 .taken))))
-    (λ w. rw (w .1) (all-kept _ (d .loop .i) _ (d .loop .all) (c .before .before .before .loop-test .taken) (sym (c .before .is-finite .ensures) ∙ not-false _ (w .0 .left))))
+    (λ w. rw (w .1) (all-lost _ (d .loop .i) _ (d .loop .all) (e .loop-test .taken) (sym (c .before .is-finite .ensures) ∙ not-true _ (w .0 .taken))))
+    (λ w. rw (w .1) (all-kept _ (d .loop .i) _ (d .loop .all) (e .loop-test .taken) (sym (c .before .is-finite .ensures) ∙ not-false _ (w .0 .left))))
     (c .if1 .came)
 
 returns : tie.Need-returns Inv-loop μ-loop

@@ -41,12 +41,13 @@ sine-pi-at-requires c κs = search needs
 
 returns-3 : tie.Need-returns-3
 returns-3 c =
-    let s = c .before .before .before .before .before .before .before in
-    let p = c .before .before .before .before .before .pattern in
+    let d = c .before .before .before .before in
+    let s = d .before .before .before in
+    let p = d .before .pattern in
     let a = c .before .before .before .of-pattern in
     let r = c .before .before .reduce-pi in
     c .sine-pi-at .ensures
-    ∙ cosPi-at (s .args .x) (p .result) (subst T (sym (s .good .0 .1)) tt) (p .ensures) (c .before .before .before .before .if2 .left) (r .result) (a .result) (a .ensures) (r .ensures)
+    ∙ cosPi-at (s .args .x) (p .result) (subst T (sym (s .good .0 .1)) tt) (p .ensures) (d .if2 .left) (r .result) (a .result) (a .ensures) (r .ensures)
 
 pub cos-pi-spec : {M : Type 1} → statement M
 cos-pi-spec =

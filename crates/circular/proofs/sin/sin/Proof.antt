@@ -44,12 +44,13 @@ sine-at-requires c κs = search needs
 
 returns-3 : tie.Need-returns-3
 returns-3 c =
-    let s = c .before .before .before .before .before .before .before in
-    let p = c .before .before .before .before .before .pattern in
+    let d = c .before .before .before .before in
+    let s = d .before .before .before in
+    let p = d .before .pattern in
     let a = c .before .before .before .of-pattern in
     let r = c .before .before .reduce in
     c .sine-at .ensures
-    ∙ sin-at (s .args .x) (p .result) (subst T (sym (s .good .0 .1)) tt) (p .ensures) (c .before .before .before .before .if2 .left) (r .result) (a .result) (a .ensures) (r .ensures)
+    ∙ sin-at (s .args .x) (p .result) (subst T (sym (s .good .0 .1)) tt) (p .ensures) (d .if2 .left) (r .result) (a .result) (a .ensures) (r .ensures)
 
 pub sin-spec : {M : Type 1} → statement M
 sin-spec =

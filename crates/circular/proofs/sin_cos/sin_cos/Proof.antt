@@ -8,6 +8,9 @@ use lib.Dec.{T}
 use lib.ListN.{getD}
 use lib.Ieee.{Float, nan, neg}
 use Rattle.circular.specs.declared.reduce.Reduced.{Reduced}
+use Rattle.circular.specs.Sin.{sinOf}
+use Rattle.circular.specs.Cos.{cosOf}
+use Rattle.circular.specs.SinCos.{sinCosOf}
 use Rattle.circular.specs.Kernel.{sineKernel, turned}
 use Rattle.circular.proofs.Parts.{quarter-lt, at, sin-nan, sin-large, sin-at, cos-nan, cos-large, cos-at, turns}
 use Rattle.circular.proofs.sin_cos.sin_cos.Statement.{statement}
@@ -19,11 +22,15 @@ not-a-number-requires c κs = search needs
 not-a-number-requires-2 : tie.Need-not-a-number-requires-2
 not-a-number-requires-2 c κs = search needs
 
+both : {s c : Float} (x : Float) → s ≡ sinOf x → c ≡ cosOf x → record { sin = s; cos = c } ≡ sinCosOf x
+unfolding sinCosOf
+both x p q = λ i. record { sin = p i; cos = q i }
+
 returns : tie.Need-returns
 returns c =
     let x = c .before .before .before .args .x in
     let t = c .before .before .if1 .taken in
-    (c .before .not-a-number .ensures ∙ sym (sin-nan x t), c .not-a-number2 .ensures ∙ sym (cos-nan x t))
+    both x (c .before .not-a-number .ensures ∙ sym (sin-nan x t)) (c .not-a-number2 .ensures ∙ sym (cos-nan x t))
 
 pattern-requires : tie.Need-pattern-requires
 pattern-requires c κs = search needs
@@ -38,10 +45,10 @@ returns-2 : tie.Need-returns-2
 returns-2 c =
     let s = c .before .before .before .before .before in
     let p = c .before .before .before .pattern in
-    let F = subst T (sym (s .good .0 .1)) tt in (
-      c .before .not-a-number3 .ensures ∙ sym (sin-large (s .args .x) (p .result) F (p .ensures) (c .before .before .if2 .taken)),
-      c .not-a-number4 .ensures ∙ sym (cos-large (s .args .x) (p .result) F (p .ensures) (c .before .before .if2 .taken)),
-    )
+    let F = subst T (sym (s .good .0 .1)) tt in
+    let h = c .before .before .if2 .taken in
+    both (s .args .x) (c .before .not-a-number3 .ensures ∙ sym (sin-large (s .args .x) (p .result) F (p .ensures) h))
+    (c .not-a-number4 .ensures ∙ sym (cos-large (s .args .x) (p .result) F (p .ensures) h))
 
 of-pattern-requires : tie.Need-of-pattern-requires
 of-pattern-requires c κs = search needs
@@ -93,15 +100,16 @@ row c n =
 
 returns-3 : tie.Need-returns-3
 returns-3 c =
-    let s = c .before .before .before .before .before .before .before in
-    let p = c .before .before .before .before .before .pattern in
-    let h = c .before .before .before .before .if2 .left in
+    let d = c .before .before .before .before in
+    let s = d .before .before .before in
+    let p = d .before .pattern in
+    let h = d .if2 .left in
     let a = c .before .before .before .of-pattern in
     let r = c .before .before .reduce in
-    let F = subst T (sym (s .good .0 .1)) tt in (
-      row c (p .result / 9223372036854775808 * 2) ∙ sin-at (s .args .x) (p .result) F (p .ensures) h (r .result) (a .result) (a .ensures) (r .ensures),
-      row c 1 ∙ cos-at (s .args .x) (p .result) F (p .ensures) h (r .result) (a .result) (a .ensures) (r .ensures),
-    )
+    let F = subst T (sym (s .good .0 .1)) tt in
+    both (s .args .x)
+    (row c (p .result / 9223372036854775808 * 2) ∙ sin-at (s .args .x) (p .result) F (p .ensures) h (r .result) (a .result) (a .ensures) (r .ensures))
+    (row c 1 ∙ cos-at (s .args .x) (p .result) F (p .ensures) h (r .result) (a .result) (a .ensures) (r .ensures))
 
 pub sin-cos-spec : {M : Type 1} → statement M
 sin-cos-spec =

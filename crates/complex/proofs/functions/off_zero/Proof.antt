@@ -1,4 +1,5 @@
 -- `complex::functions::off_zero` meets its contract: one sine and one cosine serve all three. Assumes nothing.
+use Rattle.circular.specs.SinCos.{sinCosOf}
 use Rattle.complex.specs.Functions.{polarOf, complexExpOf, complexCoshOf, complexSinhOf}
 use borrow.Author.Needs.{needs}
 use Rattle.complex.proofs.functions.off_zero.Statement.{statement}
@@ -17,12 +18,12 @@ sinh-requires : tie.Need-sinh-requires
 sinh-requires c κs = search needs
 
 returns : tie.Need-returns
-unfolding polarOf complexExpOf complexCoshOf complexSinhOf
+unfolding polarOf complexExpOf complexCoshOf complexSinhOf sinCosOf
 returns c =
     let turn = c .before .before .before .sin-cos .ensures in (
-      simp (c .before .before .exp .ensures, turn .0, turn .1),
-      simp (c .before .cosh .ensures, c .sinh .ensures, turn .0, turn .1),
-      simp (c .before .cosh .ensures, c .sinh .ensures, turn .0, turn .1),
+      simp (c .before .before .exp .ensures, turn),
+      simp (c .before .cosh .ensures, c .sinh .ensures, turn),
+      simp (c .before .cosh .ensures, c .sinh .ensures, turn),
     )
 
 pub off-zero-spec : {M : Type 1} → statement M

@@ -1,4 +1,5 @@
 -- `complex::functions::polar` meets its contract: sine and cosine come together. Assumes nothing.
+use Rattle.circular.specs.SinCos.{sinCosOf}
 use Rattle.complex.specs.Functions.{polarOf}
 use borrow.Author.Needs.{needs}
 use Rattle.complex.proofs.functions.polar.Statement.{statement}
@@ -8,8 +9,8 @@ sin-cos-requires : tie.Need-sin-cos-requires
 sin-cos-requires c κs = search needs
 
 returns : tie.Need-returns
-unfolding polarOf
-returns c = let turn = c .before .before .sin-cos .ensures in simp (turn .0, turn .1)
+unfolding polarOf sinCosOf
+returns c = simp (c .before .before .sin-cos .ensures)
 
 pub polar-spec : {M : Type 1} → statement M
 polar-spec = tie.close (tie.spec sin-cos-requires returns)

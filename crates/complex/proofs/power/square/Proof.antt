@@ -1,5 +1,5 @@
 -- `complex::power::square` meets its contract: the two products of the power 2. Assumes nothing.
-use Rattle.complex.specs.Functions.{powerOf}
+use Rattle.complex.specs.Power.{powerOf}
 use Rattle.laws.specs.Iterate.{iterate}
 use borrow.Author.Needs.{needs}
 use Rattle.complex.proofs.power.square.Statement.{statement}

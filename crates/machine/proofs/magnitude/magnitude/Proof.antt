@@ -9,6 +9,7 @@ use Rattle.machine.proofs.magnitude.magnitude.Statement.{statement}
 use Rattle.machine.proofs.magnitude.magnitude.Tie as tie
 
 returns : tie.Need-returns
+unfolding magnitudeOf
 returns c = let e = differs-from-itself (c .before .args .x) (subst T (sym (c .if1 .taken)) tt) in e ∙ sym (ap magnitudeOf e)
 
 float-to-bits-result : tie.Need-float-to-bits-result

@@ -30,15 +30,17 @@ add-t17 c = search needs
 
 returns : tie.Need-returns
 unfolding complexStep complexNext shareOf
-returns c = simp (
-  c .before .plus .ensures,
-  c .before .before .times-real3 .ensures,
-  c .before .before .before .minus .ensures,
-  c .before .before .before .before .times-real2 .ensures,
-  c .before .before .before .before .before .product .ensures,
-  c .before .before .before .before .before .before .times-real .ensures,
-  c .before .before .before .before .before .before .before .plus-real .ensures,
-)
+returns c =
+    let d = c .before .before .before .before in
+    simp (
+      c .before .plus .ensures,
+      c .before .before .times-real3 .ensures,
+      c .before .before .before .minus .ensures,
+      d .times-real2 .ensures,
+      d .before .product .ensures,
+      d .before .before .times-real .ensures,
+      d .before .before .before .plus-real .ensures,
+    )
 
 pub complex-step-spec : {M : Type 1} → statement M
 complex-step-spec =

@@ -52,28 +52,31 @@ returns-2 c = c .plain-steps2 .ensures
 with-real-part-requires-2 : tie.Need-with-real-part-requires-2 Inv-loop μ-loop
 unfolding complexStep
 with-real-part-requires-2 c κs =
+    let d = c .before .before .before .before .before .before .before .before .before in
     let t = c .before .before .before .before .with-real-part in
-    let e : t .result .steps ≡ c .before .before .before .before .before .before .before .before .before .before .before .loop .s .steps + 1 = ap (λ (s : ComplexSteps). s .steps) (t .ensures) in
-    (omega (arith, c .before .before .before .before .before .before .before .before .before .if1 .taken, c .before .before .before .before .before .before .before .before .before .before .before .before .before .fits .start), c .before .before .before .real-part2 .ensures)
+    let e : t .result .steps ≡ d .before .before .loop .s .steps + 1 = ap (λ (s : ComplexSteps). s .steps) (t .ensures) in
+    (omega (arith, d .if1 .taken, d .before .before .before .before .fits .start), c .before .before .before .real-part2 .ensures)
 
 loop-less : tie.Need-loop-less Inv-loop μ-loop
 unfolding complexStep
 loop-less c =
+    let d = c .before .before .before .before .before .before .before .before .before .before in
     let t = c .before .before .before .before .before .with-real-part in
     let u = c .with-real-part2 in
-    let e : t .result .steps ≡ c .before .before .before .before .before .before .before .before .before .before .before .before .loop .s .steps + 1 = ap (λ (s : ComplexSteps). s .steps) (t .ensures) in
+    let e : t .result .steps ≡ d .before .before .loop .s .steps + 1 = ap (λ (s : ComplexSteps). s .steps) (t .ensures) in
     let f : u .result .steps ≡ t .result .steps + 1 = ap (λ (s : ComplexSteps). s .steps) (u .ensures) in
-    omega (arith, c .before .before .before .before .before .before .before .before .before .before .if1 .taken)
+    omega (arith, d .if1 .taken)
 
 loop-again : tie.Need-loop-again Inv-loop μ-loop
 unfolding complexStep
 loop-again c =
-    let loop = c .before .before .before .before .before .before .before .before .before .before .before .before .loop in
+    let d = c .before .before .before .before .before .before .before .before .before .before in
+    let loop = d .before .before .loop in
     let t = c .before .before .before .before .before .with-real-part in
     let u = c .with-real-part2 in
     let e : t .result .steps ≡ loop .s .steps + 1 = ap (λ (s : ComplexSteps). s .steps) (t .ensures) in
     let f : u .result .steps ≡ t .result .steps + 1 = ap (λ (s : ComplexSteps). s .steps) (u .ensures) in
-    (omega (arith, c .before .before .before .before .before .before .before .before .before .before .if1 .taken), one-more _ _ _ _ _ _ (one-more _ _ _ _ _ _ (loop .inv .1) (t .ensures) e) (u .ensures) f)
+    (omega (arith, d .if1 .taken), one-more _ _ _ _ _ _ (one-more _ _ _ _ _ _ (loop .inv .1) (t .ensures) e) (u .ensures) f)
 
 last-step-requires : tie.Need-last-step-requires Inv-loop μ-loop
 last-step-requires c κs = (c .before .before .loop .inv .0, omega arith)

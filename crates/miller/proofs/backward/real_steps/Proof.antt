@@ -34,12 +34,13 @@ loop-less c = let e : c .real-step .result .steps ≡ c .before .before .before 
 loop-again : tie.Need-loop-again Inv-loop μ-loop
 unfolding realStep
 loop-again c =
-    let args = c .before .before .before .before .before .args in
-    let s = c .before .before .before .loop .s in
+    let d = c .before .before .before in
+    let args = d .before .before .args in
+    let s = d .loop .s in
     let step = realStep (args .x) (args .distance) in
     let first = realFirst (args .start) in
     let e : c .real-step .result .steps ≡ s .steps + 1 = ap (λ (s : RealSteps). s .steps) (c .real-step .ensures) in
-    let n : c .real-step .result ≡ iterate (s .steps + 1) step first = c .real-step .ensures ∙ ap step (c .before .before .before .loop .inv .1) ∙ sym (iterate-next (s .steps) step first) in
+    let n : c .real-step .result ≡ iterate (s .steps + 1) step first = c .real-step .ensures ∙ ap step (d .loop .inv .1) ∙ sym (iterate-next (s .steps) step first) in
     (omega arith, n ∙ ap (λ (n : ℕ). iterate n step first) (sym e))
 
 returns : tie.Need-returns Inv-loop μ-loop

@@ -30,12 +30,14 @@ enum-told c = search needs
 
 returns-2 : tie.Need-returns-2
 unfolding byRecurrence convergenceTest corrected tolerance
-returns-2 c = simp (
-  c .start-from .ensures,
-  c .before .raw-start .ensures,
-  c .before .before .before .before .before .before .before .if1 .left,
-  sym (c .before .before .before .before .before .trial-index .ensures) ∙ c .before .before .before .found .given .1,
-)
+returns-2 c =
+    let d = c .before .before .before .before .before in
+    simp (
+      c .start-from .ensures,
+      c .before .raw-start .ensures,
+      d .before .before .if1 .left,
+      sym (d .trial-index .ensures) ∙ c .before .before .before .found .given .1,
+    )
 
 returns-3 : tie.Need-returns-3
 unfolding byRecurrence convergenceTest corrected tolerance

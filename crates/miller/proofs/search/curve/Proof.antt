@@ -20,7 +20,9 @@ cos-requires-2 c κs = search needs
 
 returns-2 : tie.Need-returns-2
 unfolding curveOf flattened
-returns-2 c = simp (c .cos2 .ensures, c .before .before .cos .ensures, sym (c .before .before .before .before .before .is-real .ensures) ∙ c .before .before .before .before .if1 .left)
+returns-2 c =
+    let d = c .before .before .before .before in
+    simp (c .cos2 .ensures, c .before .before .cos .ensures, sym (d .before .is-real .ensures) ∙ d .if1 .left)
 
 pub curve-spec : {M : Type 1} → statement M
 curve-spec = tie.close (tie.spec is-real-requires returns cos-requires cos-requires-2 returns-2)

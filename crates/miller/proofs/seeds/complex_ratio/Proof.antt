@@ -43,13 +43,14 @@ plus-real-requires-3 c κs = search needs
 returns-2 : tie.Need-returns-2
 unfolding ratioUnless complexRatio
 returns-2 c =
-    let d = c .before .before .before .before .before in
+    let e = c .before .before .before in
+    let d = e .before .before in
     simp (
       c .plus-real3 .ensures,
       c .before .quotient .ensures,
       c .before .before .plus-real2 .ensures,
-      c .before .before .before .plus-real .ensures,
-      c .before .before .before .before .opposite .ensures,
+      e .plus-real .ensures,
+      e .before .opposite .ensures,
       d .product .ensures,
       d .before .over-real2 .ensures,
       d .before .before .conjugate .ensures,

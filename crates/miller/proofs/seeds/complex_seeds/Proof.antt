@@ -46,13 +46,14 @@ second-is false z fraction s first = refl
 returns : tie.Need-returns
 unfolding complexSeeds complexFirstSeed
 returns c =
-    let d = c .before .before .before .before .before in
+    let e = c .before .before .before in
+    let d = e .before .before in
     simp (
       c .complex-second .ensures,
       c .before .product2 .ensures,
       c .before .before .product .ensures,
-      c .before .before .before .over-real2 .ensures,
-      c .before .before .before .before .over-real .ensures,
+      e .over-real2 .ensures,
+      e .before .over-real .ensures,
       d .conjugate .ensures,
       d .before .modulus .ensures,
       d .before .before .complex-ratio .ensures,

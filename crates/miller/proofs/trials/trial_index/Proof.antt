@@ -46,11 +46,12 @@ loop-less c = omega arith
 loop-again : tie.Need-loop-again Inv-loop μ-loop
 unfolding metAfter
 loop-again c =
-    let start = c .before .before .before .before .before in
+    let d = c .before .before .before .before in
+    let start = d .before in
     let modulus = start .args .modulus in
     let square = start .args .square in
     let test = start .args .test in
-    let loop = c .before .before .before .before .loop in
+    let loop = d .loop in
     let i = loop .i in
     let t : c .before .before .next-trial .result ≡ trialAfter modulus square (i + 1) = c .before .before .next-trial .ensures ∙ ap (nextTrial modulus square (i + 1)) (loop .inv .1) ∙ trial-next modulus square i in
     let m : metAfter modulus square test (i + 1) ≡ false = sym (c .before .is-met .ensures ∙ ap (λ (s : Trial). isMet test (i + 1) (s .newer)) t) ∙ c .if2 .left in
@@ -60,11 +61,12 @@ loop-again c =
 returns-2 : tie.Need-returns-2 Inv-loop μ-loop
 unfolding metAfter
 returns-2 c =
-    let start = c .before .before .before .before .before in
+    let d = c .before .before .before .before in
+    let start = d .before in
     let modulus = start .args .modulus in
     let square = start .args .square in
     let test = start .args .test in
-    let loop = c .before .before .before .before .loop in
+    let loop = d .loop in
     let i = loop .i in
     let t : c .before .before .next-trial .result ≡ trialAfter modulus square (i + 1) = c .before .before .next-trial .ensures ∙ ap (nextTrial modulus square (i + 1)) (loop .inv .1) ∙ trial-next modulus square i in
     let m : metAfter modulus square test (i + 1) ≡ true = sym (c .before .is-met .ensures ∙ ap (λ (s : Trial). isMet test (i + 1) (s .newer)) t) ∙ c .if2 .taken in

@@ -41,7 +41,9 @@ small-3 : (c : tie.After-one-if-below3) → c .one-if-below3 .result ≤ 1
 small-3 c = let e = c .before .before .before .args .e in small _ (raisedRest e + e) (boundOf (c .before .before .before .args .n) e) (c .one-if-below3 .ensures)
 
 small-4 : (c : tie.After-one-if-below4) → c .one-if-below4 .result ≤ 1
-small-4 c = let e = c .before .before .before .before .args .e in small _ (raisedRest e + 3 * e + 2) (boundOf (c .before .before .before .before .args .n) e) (c .one-if-below4 .ensures)
+small-4 c =
+    let d = c .before .before .before .before in
+    let e = d .args .e in small _ (raisedRest e + 3 * e + 2) (boundOf (d .args .n) e) (c .one-if-below4 .ensures)
 
 mul-m : tie.Need-mul-m
 mul-m c = omega (arith, sizes c)

@@ -44,10 +44,11 @@ loop-less c =
 
 loop-again : tie.Need-loop-again Inv-loop μ-loop
 loop-again c =
-    let s = c .before .before .before .before .loop .s in
+    let d = c .before .before .before .before in
+    let s = d .loop .s in
     let t : c .with-term .result .count ≡ s .count + 1 = ap count (c .with-term .ensures) ∙ counts _ s in
     let h : s .count < 8 = omega arith in
-    (omega arith, c .before .before .before .before .loop .inv .1 ∙ left-next done (withTerm _) count 8 s (counts _ s) h (c .before .if2 .left) ∙ ap (left done (withTerm _) count 8) (sym (c .with-term .ensures)))
+    (omega arith, d .loop .inv .1 ∙ left-next done (withTerm _) count 8 s (counts _ s) h (c .before .if2 .left) ∙ ap (left done (withTerm _) count 8) (sym (c .with-term .ensures)))
 
 returns-2 : tie.Need-returns-2 Inv-loop μ-loop
 returns-2 c = let d = c .before .before in sym (d .loop .inv .1 ∙ left-end done (withTerm _) count 8 (d .loop .s) (omega arith))

@@ -62,13 +62,14 @@ begun-requires-2 c κs = search needs
 returns-2 : tie.Need-returns-2
 unfolding startOf
 returns-2 c =
-    let d = c .before .before .before .before .before .before .before in
+    let e = c .before .before .before in
+    let d = e .before .before .before .before in
     simp (
       c .begun2 .ensures,
       c .before .over-real2 .ensures,
       c .before .before .real-over .ensures,
-      c .before .before .before .over-real .ensures,
-      c .before .before .before .before .times-real4 .ensures,
+      e .over-real .ensures,
+      e .before .times-real4 .ensures,
       d .times-real3 .ensures,
       d .before .plus .ensures,
       d .before .before .times-real2 .ensures,

@@ -60,14 +60,15 @@ plus-requires-4 c κs = search needs
 returns : tie.Need-returns
 unfolding nextTerms nextMagnitude sharesOf shareOf
 returns c =
-    let d = c .before .before .before .before .before .before .before .before in
+    let e = c .before .before .before .before .before .before in
+    let d = e .before .before in
     simp (
       c .plus4 .ensures,
       c .before .product3 .ensures,
       c .before .before .plus3 .ensures,
       c .before .before .before .product2 .ensures,
-      c .before .before .before .before .before .before .minus .ensures,
-      c .before .before .before .before .before .before .before .times-real6 .ensures,
+      e .minus .ensures,
+      e .before .times-real6 .ensures,
       d .product .ensures,
       d .before .times-real5 .ensures,
       d .before .before .times-real4 .ensures,

@@ -1,4 +1,6 @@
--- What the parts of the routine ask of a triangle: two magnitudes by size; and the same in the range that scaling leaves. Definitions only.
+-- How it is computed, not what: what the parts of the code ask of a triangle, two magnitudes by size, and the same in the range that
+-- scaling leaves.
+-- Definitions only.
 use lib.Dec.{T}
 use lib.Ieee.{Float, binary64, ofBits, fits, le}
 use Rattle.machine.specs.Small.{nothing}

@@ -19,21 +19,29 @@ fn beyond_series(a: Arguments, n: u32) -> bool
     a.modulus * a.modulus * 0.25 > largest_order + 1.0
 }
 
+// The limits are looked at where the arguments are finite alone, so that the calls that are admitted pass by one branch after the other.
 fn argument_verdict(a: Arguments, length: usize) -> Verdict
     ensures { λ r. ⌜ r ≡ verdictOf (argumentChecks a length) ⌝ }
 {
     let z = a.z;
-    Verdict::Admitted
+    let verdict = Verdict::Admitted
         .length_checked(length)
-        .finite_checked(a.order, z.re, z.im)
-        .limits_checked(a.order, z.re, z.im)
+        .finite_checked(a.order, z.re, z.im);
+    match verdict {
+        Verdict::Admitted => verdict.limits_checked(a.order, z.re, z.im),
+        Verdict::Refused(_) => verdict,
+    }
 }
 
 pub fn k_verdict(a: Arguments, length: usize) -> Verdict
     ensures { λ r. ⌜ r ≡ verdictOf (kChecks a length) ⌝ }
 {
     let z = a.z;
-    argument_verdict(a, length).refused_if(is_zero(z.re, z.im), Refusal::Zero)
+    let verdict = argument_verdict(a, length);
+    match verdict {
+        Verdict::Admitted => verdict.refused_if(is_zero(z.re, z.im), Refusal::Zero),
+        Verdict::Refused(_) => verdict,
+    }
 }
 
 // How many orders are asked for is known of an admitted length alone.

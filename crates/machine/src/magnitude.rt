@@ -1,4 +1,5 @@
-// The magnitude of any f64, and the test of it against a number above zero, which needs no magnitude. The magnitude: the sign's bit taken off. A not-a-number has no pattern to take it from, and is its own magnitude.
+// The magnitude of any f64, which is the value with the sign's bit taken off, and the test of it against a number above zero, which needs none.
+// A not-a-number has no pattern to take the bit from, and is its own magnitude.
 ghost use mathlib.Core.Path.{_≡_};
 ghost use lib.Dec.{T};
 ghost use lib.Ieee.{binary64, ofBits, lt};

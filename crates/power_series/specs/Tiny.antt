@@ -1,4 +1,4 @@
--- Arguments of a modulus m below the underflow limit: ZSERI from 150 to 180, every cell written as document 01 asks (`i_power_series` of
+-- Arguments of a modulus m below the underflow limit: ZSERI from 150 to 180, every cell written as docs/SCOPE.md asks (`i_power_series` of
 -- src/amos/power_series.rs writes the first alone). Definitions only.
 use mathlib.Core.Bool.{false, cond}
 use mathlib.Core.List.{_∷_}

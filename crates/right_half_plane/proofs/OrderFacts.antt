@@ -14,7 +14,8 @@ use Rattle.laws.proofs.Value.{le-values}
 use Rattle.rounding.specs.Round.{roundOf, nearestWhole}
 use Rattle.rounding.proofs.RoundFacts.{round-value, nearest}
 use Rattle.complex.specs.declared.number.Complex.{Complex}
-use Rattle.right_half_plane.specs.Ground.{largestOrder, nearestOrder, groundOf, Sized}
+use Rattle.call.specs.Limits.{largestOrder}
+use Rattle.right_half_plane.specs.Ground.{nearestOrder, groundOf, Sized}
 
 nearest-low : (x : Float) → T (nonnegative x) → T (le x largestOrder) → nearestWhole (num x) (den x) ≤ 1000
 unfolding ofBits

@@ -10,10 +10,6 @@ use Rattle.complex.specs.Functions.{twoOverWith}
 use Rattle.temme.specs.Difference.{fractionSquare}
 use Rattle.right_half_plane.specs.declared.ground.Ground.{Ground}
 
--- 1,000
-abbrev pub largestOrder : Float
-largestOrder = ofBits binary64 0x408F400000000000
-
 -- r, the order rounded half away from zero
 unfoldable pub nearestOrder : Float → ℕ
 nearestOrder order = toUnsigned 32 (roundOf order)

@@ -1,16 +1,17 @@
 #!/usr/bin/env python3
-"""gamma_ln.py [--check]: the tables of crate gamma_ln_tables, which gamma_ln stands on, from mpmath at 300 bits.
+"""gamma_ln.py [--check]: the two tables of log-gamma, from mpmath at 300 bits.
 
-The 22 coefficients B(2k)/(2k(2k-1)) of Stirling's series, DLMF 5.11.1, and ln((j-1)!) at index j = 1..100, each the nearest f64; index 0 is
-never asked for and holds 0. Writes src/tables.rt, specs/Tables.antt and the proofs that the two agree; with --check it writes nothing, compares the
-files, prints every number with its bits and its distance from the true value in units of its last place, and fails above one half."""
+The 22 coefficients B(2k)/(2k(2k-1)) of Stirling's series, DLMF 5.11.1, for crate gamma_ln, and ln((j-1)!) at index j = 1..100 for crate gamma_ln_tables, each
+the nearest f64; index 0 is never asked for and holds 0. Writes the constant arrays, their definitions, and the proof that whole_value reads the second one; with
+--check it writes nothing, compares the files, prints every number with its bits and its distance from the true value in units of its last place, and fails
+above one half."""
 import os, sys
 from mpmath import mp, mpf, bernoulli, loggamma, log, pi, frexp, nstr
 from f64 import bits, nearest, of_bits
 
 mp.prec = 300
 HERE = os.path.dirname(os.path.abspath(__file__))
-CRATE = os.path.join(HERE, '..', '..', 'crates', 'gamma_ln_tables')
+CRATES = os.path.join(HERE, '..', '..', 'crates')
 
 
 def true_values():
@@ -19,53 +20,57 @@ def true_values():
     return coefficients, factorials
 
 
-# the function, the definition, its index, the number of entries, what an entry is
+# the name on the page of constants, the definition, the array, what an entry is
 TABLES = [
-    ('coefficient', 'coefficients', 'i', 22, 'B(2k)/(2k(2k-1)) with k = i + 1'),
-    ('whole_value', 'wholeValues', 'j', 101, 'ln((j-1)!), log-gamma at j itself; no argument asks for index 0'),
+    ('coefficient', 'coefficients', 'COEFFICIENTS', 'B(2k)/(2k(2k-1)) with k = i + 1'),
+    ('whole_value', 'wholeValues', 'WHOLE_VALUES', 'ln((j-1)!), log-gamma at j itself; no argument asks for index 0'),
 ]
 LN_2_PI = 0x3FFD67F1C864BEB5
 
 
-def source(tables):
-    out = ['// The tables of log-gamma (DGAMLN\'s CF and GLN), each number the nearest f64. They are matches, which the compiler turns into constants in',
-           '// memory: an array would be stored anew in each turn of a loop. Written and confirmed by tools/tables/gamma_ln.py, with specs/Tables.antt',
-           '// and the proofs that they agree.',
+def array(row, table):
+    return ['', '// ' + row[3], '%s: [f64; %d] = [' % (row[2], len(table))] + ['    %r,' % x for x in table] + ['];']
+
+
+def coefficients_source(table):
+    out = ["// The coefficients of Stirling's series (DGAMLN's CF, DLMF 5.11.1), each the nearest f64. series.rt copies the array before its loop, which then unrolls:",
+           '// no entry is stored (tools/objects). Written and confirmed by tools/tables/gamma_ln.py, with specs/Coefficients.antt.']
+    return '\n'.join(out + array(TABLES[0], table)).replace('\nCOEFFICIENTS', '\npub const COEFFICIENTS') + '\n'
+
+
+def whole_source(table):
+    out = ["// Log-gamma at the whole arguments (DGAMLN's GLN), each number the nearest f64. The array is copied and each arm reads its own entry, so that the compiler",
+           '// keeps one constant in memory and one load: a computed index would store all 101 entries first (tools/objects). Written and confirmed by',
+           '// tools/tables/gamma_ln.py, with specs/Tables.antt and the proof that the two agree.',
            'ghost use mathlib.Core.Path.{_≡_};', 'ghost use Prim.Native.Nat.{_<_};', 'ghost use lib.ListN.{getD};', 'ghost use lib.Ieee.{nan};',
-           'ghost use Rattle.gamma_ln_tables.specs.Tables.{%s};' % ', '.join(name for _, name, _, _, _ in TABLES)]
-    for (function, name, index, size, what), table in zip(TABLES, tables):
-        out += ['', '// ' + what, 'pub fn %s(%s: u32) -> f64' % (function, index), '    requires { ⌜ %s < %d ⌝ }' % (index, size),
-                '    ensures { λ r. ⌜ r ≡ getD %s %s nan ⌝ }' % (name, index), '{', '    match %s {' % index]
-        out += ['        %s => %r,' % ('_' if i == size - 1 else i, x) for i, x in enumerate(table)]
-        out += ['    }', '}']
-    return '\n'.join(out) + '\n'
+           'ghost use Rattle.gamma_ln_tables.specs.Tables.{wholeValues};']
+    out += [line.replace('WHOLE_VALUES: ', 'const WHOLE_VALUES: ') for line in array(TABLES[1], table)]
+    out += ['', 'pub fn whole_value(j: u32) -> f64', '    requires { ⌜ j < %d ⌝ }' % len(table), '    ensures { λ r. ⌜ r ≡ getD wholeValues j nan ⌝ }', '{',
+            '    let values = WHOLE_VALUES;', '    match j {']
+    out += ['        %s => values[%d],' % ('_' if j == len(table) - 1 else j, j) for j in range(len(table))]
+    return '\n'.join(out + ['    }', '}']) + '\n'
 
 
-def definitions(tables):
-    out = ['-- The tables of log-gamma (DGAMLN\'s CF, of DLMF 5.11.1, and GLN), each number the nearest f64. Written and confirmed by',
-           '-- tools/tables/gamma_ln.py. Definitions only.',
-           'use mathlib.Core.List.{List, [], _∷_}', 'use lib.Ieee.{Float, binary64, ofBits}', '']
-    for (_, name, _, _, what), table in zip(TABLES, tables):
-        out += ['-- ' + what, 'unfoldable pub %s : List Float' % name, '%s =' % name]
-        out += ['    ofBits binary64 0x%016X ∷  -- %r' % (bits(x), x) for x in table]
-        out += ['    []', '']
-    return '\n'.join(out).rstrip() + '\n'
+def definition(row, table, head):
+    out = head + ['use mathlib.Core.List.{List, [], _∷_}', 'use lib.Ieee.{Float, binary64, ofBits}', '', '-- ' + row[3], 'unfoldable pub %s : List Float' % row[1], '%s =' % row[1]]
+    return '\n'.join(out + ['    ofBits binary64 0x%016X ∷  -- %r' % (bits(x), x) for x in table] + ['    []']) + '\n'
 
 
-def proof(row, table):
-    function, name, index, size, _ = row
-    place = 'Rattle.gamma_ln_tables.proofs.tables.%s' % function
-    needs = ['returns'] + ['returns-%d' % k for k in range(2, size + 1)]
-    out = ['-- `gamma_ln_tables::tables::%s` meets its contract at each of %d entries. Written by tools/tables/gamma_ln.py. Assumes nothing.' % (function, size)]
-    # the source has a minus sign where the definition has the sign's bit
-    out += ['use lib.Ieee.{ofBits, neg}'] * (min(table) < 0)
-    out += ['use Rattle.laws.proofs.Arms.{last}', 'use Rattle.gamma_ln_tables.specs.Tables.{%s}' % name, 'use %s.Statement.{statement}' % place, 'use %s.Tie as tie' % place]
-    for k, (need, x) in enumerate(zip(needs, table), 1):
-        fact = 'c .match .keys%d' % k if k < size else 'last %d (c .before .args .%s) (c .before .pre) (c .match .rest)' % (size - 1, index)
-        out += ['', '%s : tie.Need-%s' % (need, need), 'unfolding %s%s' % ('ofBits neg ' if x < 0 else '', name), '%s c = rw (%s)' % (need, fact)]
-    spec = function.replace('_', '-') + '-spec'
-    out += ['', 'pub %s : {M : Type 1} → statement M' % spec, '%s =' % spec, '    tie.close', '    (tie.spec']
-    return '\n'.join(out + ['    ' + need for need in needs]) + ')\n'
+def proof(size):
+    def numbered(name):
+        return [name] + ['%s-%d' % (name, k) for k in range(2, size + 1)]
+    reads, returns = numbered('array-read-result'), numbered('returns')
+    place = 'Rattle.gamma_ln_tables.proofs.tables.whole_value'
+    out = ['-- `gamma_ln_tables::tables::whole_value` meets its contract at each of %d entries. Written by tools/tables/gamma_ln.py. Assumes nothing.' % size,
+           'use borrow.Author.Needs.{needs}', 'use Rattle.laws.proofs.Arms.{last}', 'use Rattle.gamma_ln_tables.specs.Tables.{wholeValues}',
+           'use %s.Statement.{statement}' % place, 'use %s.Tie as tie' % place]
+    for need in reads:
+        out += ['', '%s : tie.Need-%s' % (need, need), '%s c = search needs' % need]
+    for k, need in enumerate(returns, 1):
+        fact = 'c .match .keys%d' % k if k < size else 'last %d (c .before .args .j) (c .before .pre) (c .match .rest)' % (size - 1)
+        out += ['', '%s : tie.Need-%s' % (need, need), 'unfolding wholeValues', '%s c = rw (%s)' % (need, fact)]
+    out += ['', 'pub whole-value-spec : {M : Type 1} → statement M', 'whole-value-spec =', '    tie.close', '    (tie.spec']
+    return '\n'.join(out + ['    ' + need for need in reads + returns]) + ')\n'
 
 
 def distance(x, true):
@@ -89,9 +94,17 @@ def report(tables, true):
 def main():
     true = true_values()
     tables = [[nearest(t) for t in values] for values in true]
-    files = [('src/tables.rt', source(tables)), ('specs/Tables.antt', definitions(tables))]
-    files += [('proofs/tables/%s/Proof.antt' % row[0], proof(row, table)) for row, table in zip(TABLES, tables)]
-    files = [(os.path.join(CRATE, *path.split('/')), text) for path, text in files]
+    coefficients, whole = tables
+    files = [
+        ('gamma_ln/src/coefficients.rt', coefficients_source(coefficients)),
+        ('gamma_ln/specs/Coefficients.antt', definition(TABLES[0], coefficients, ["-- The coefficients of Stirling's series (DGAMLN's CF), DLMF 5.11.1, each the nearest f64. Written and confirmed by",
+                                                                                 '-- tools/tables/gamma_ln.py. Definitions only.'])),
+        ('gamma_ln_tables/src/tables.rt', whole_source(whole)),
+        ('gamma_ln_tables/specs/Tables.antt', definition(TABLES[1], whole, ["-- Log-gamma at the whole arguments (DGAMLN's GLN), each number the nearest f64. Written and confirmed by",
+                                                                           '-- tools/tables/gamma_ln.py. Definitions only.'])),
+        ('gamma_ln_tables/proofs/tables/whole_value/Proof.antt', proof(len(whole))),
+    ]
+    files = [(os.path.join(CRATES, *path.split('/')), text) for path, text in files]
     if '--check' in sys.argv[1:]:
         for path, text in files:
             assert open(path, encoding='utf-8').read() == text, path

@@ -34,7 +34,7 @@ above-zero (fin false zero e) h n F l = absurd (subst T n (Le→le (fin false ze
 above-zero (fin false (suc m) e) h n F l = lt→ltb 0 (suc m) (zero-lt-suc m)
 
 -- ---- a value equal to a whole number has its fraction
-equal-value : (y x : Float) (k : ℕ) → HasValue y false k 1 → sign x ≡ false → T (eq y x) → HasValue x false k 1
+pub equal-value : (y x : Float) (k : ℕ) → HasValue y false k 1 → sign x ≡ false → T (eq y x) → HasValue x false k 1
 unfolding eq
 equal-value nan x k v s h = absurd v
 equal-value (inf t) x k v s h = absurd v
@@ -45,7 +45,7 @@ equal-value (fin t m e) (fin u n d) k v s h =
     let q : m * up e ≡ k * down e = sym (mul-one (m * up e)) ∙ v .1 in
     (s, mul-one (n * up d) ∙ eq-of-mul-eq-mul-right (down e) (down-pos e) (n * up d) (k * down d) (sym p ∙ ap (λ (z : ℕ). z * down d) q ∙ mul-right-comm k (down e) (down d)))
 
-positive-sign : (x : Float) → T (positive x) → sign x ≡ false
+pub positive-sign : (x : Float) → T (positive x) → sign x ≡ false
 positive-sign nan p = absurd p
 positive-sign (inf s) p = absurd p
 positive-sign (fin true m e) p = absurd p

@@ -3,5 +3,7 @@ pub mod Arguments
 pub mod AtOne
 pub mod LogGammaFacts
 pub mod LowerEnd
+pub mod OneWay
 pub mod SeriesEnds
 pub mod Counts
+pub mod Nearest

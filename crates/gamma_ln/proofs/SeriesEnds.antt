@@ -21,7 +21,7 @@ use Rattle.laws.proofs.Relative.{nonnegative}
 use Rattle.laws.proofs.Bound.{Up, Lo, Span, up-test, lo-test, up-weaken, lo-of-le, up-of, lo-of, up-one, lo-one, span-of, range-test, mul-up, div-up, upTest, mul-up-by, mul-lo-by, up-lo-lt-by, every-at}
 use Rattle.machine.specs.Constants.{tolerance}
 use Rattle.machine.specs.Small.{one}
-use Rattle.gamma_ln_tables.specs.Tables.{coefficients}
+use Rattle.gamma_ln.specs.Coefficients.{coefficients}
 use Rattle.gamma_ln.specs.declared.series.Terms.{Terms}
 use Rattle.gamma_ln.specs.Series.{isBelow, nextPower, nextTerm, withNext, isDone, firstOf, furtherOf, inverseOf, squareOf, firstTermOf, boundOf, seriesOf, EndsByTest}
 

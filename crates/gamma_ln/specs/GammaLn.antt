@@ -50,9 +50,12 @@ shiftedOf x =
     let below = factorsOf x n in
     cond (eqb n 0) above (record { value = above .value ⊖ lnOf (below .product); factors = below .count; terms = above .terms })
 
+-- by the series, shifted below 7
+abbrev pub summedOf : Float → Computed
+summedOf x = cond (lt x gammaLnMinimum) (shiftedOf x) (stirlingOf x)
+
 -- of 0 or less it is no number; of a not-a-number and of infinity it is what the formula gives
 unfoldable pub gammaLnOf : Float → Computed
 gammaLnOf x =
     cond (le x nothing) (record { value = notANumber; factors = 0; terms = 0 })
-    (cond (isTabulated x) (record { value = tabulatedOf x; factors = 0; terms = 0 })
-    (cond (lt x gammaLnMinimum) (shiftedOf x) (stirlingOf x)))
+    (cond (isTabulated x) (record { value = tabulatedOf x; factors = 0; terms = 0 }) (summedOf x))

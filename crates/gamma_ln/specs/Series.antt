@@ -9,7 +9,7 @@ use Rattle.laws.specs.Operators.{_⊕_, _⊗_, _⊘_}
 use Rattle.laws.specs.Run.{run}
 use Rattle.machine.specs.Constants.{tolerance}
 use Rattle.machine.specs.Small.{one}
-use Rattle.gamma_ln_tables.specs.Tables.{coefficients}
+use Rattle.gamma_ln.specs.Coefficients.{coefficients}
 use Rattle.gamma_ln.specs.declared.series.Terms.{Terms}
 
 -- |t| < b

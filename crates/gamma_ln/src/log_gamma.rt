@@ -1,9 +1,10 @@
 // The entry point: ln of the gamma function of a positive number, or the refusal 2 (not finite), 10 (0 or less) or 8 (the value is not finite),
-// tested in this order. Promised for every f64: specs/LogGamma.antt. A refusal holds no value.
+// tested in this order. Promised for every f64: number and values of the case returned, outcomeOf of specs/LogGamma.antt, are the defined
+// ones. A refusal holds no value.
 ghost use mathlib.Core.Path.{_≡_};
 ghost use Rattle.call.specs.Checks.{verdictOf};
-ghost use Rattle.gamma_ln.specs.LogGamma.{argumentChecks, valuedOf, logGammaOf};
-use crate::gamma_ln::gamma_ln;
+ghost use Rattle.gamma_ln.specs.LogGamma.{argumentChecks, valuedOf, outcomeOf, outcomeAt};
+use crate::gamma_ln::value;
 use call::checks::Verdict;
 use machine::finite::is_finite;
 use refusal::refusal::Refusal;
@@ -32,11 +33,11 @@ fn valued(value: f64) -> LogGamma
 }
 
 pub fn log_gamma(x: f64) -> LogGamma
-    ensures { λ r. ⌜ r ≡ logGammaOf x ⌝ }
+    ensures { λ r. ⌜ outcomeOf r ≡ outcomeAt x ⌝ }
 {
     let verdict = argument_verdict(x);
     match verdict {
-        Verdict::Admitted => valued(gamma_ln(x).value),
+        Verdict::Admitted => valued(value(x)),
         Verdict::Refused(refusal) => LogGamma::Refused(refusal),
     }
 }

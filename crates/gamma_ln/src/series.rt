@@ -2,7 +2,7 @@
 // the first. Promised: specs/Series.antt, the count of summed terms with it; from 6.5 on the test ends it within the 22 coefficients.
 ghost use mathlib.Core.Path.{_≡_};
 ghost use Rattle.gamma_ln.specs.Series.{isBelow, seriesOf, furtherOf};
-use gamma_ln_tables::tables::coefficient;
+use crate::coefficients::COEFFICIENTS;
 use machine::constants::Machine;
 
 // A sum under way: the power of 1/z of its last term, the sum, and how many terms are in it.
@@ -16,7 +16,7 @@ pub fn series(z: f64) -> Terms
     ensures { λ r. ⌜ r ≡ seriesOf z ⌝ }
 {
     let power = 1.0 / z;
-    let first = coefficient(0) * power;
+    let first = COEFFICIENTS[0] * power;
     if power >= Machine::TOLERANCE {
         further(power, first, power * power, first * Machine::TOLERANCE)
     } else {
@@ -31,18 +31,19 @@ pub fn series(z: f64) -> Terms
 fn is_below(term: f64, bound: f64) -> bool
     ensures { λ r. ⌜ r ≡ isBelow term bound ⌝ }
 {
-    if term < bound { -term < bound } else { false }
+    if term < bound { term > -bound } else { false }
 }
 
 fn further(start: f64, first: f64, square: f64, bound: f64) -> Terms
     ensures { λ r. ⌜ r ≡ furtherOf start first square bound ⌝ }
 {
+    let coefficients = COEFFICIENTS;
     let mut power = start;
     let mut sum = first;
     let mut count: u32 = 1;
     while count < 22 {
         let next = power * square;
-        let term = coefficient(count) * next;
+        let term = coefficients[count as usize] * next;
         if is_below(term, bound) {
             return Terms { power, sum, count };
         }

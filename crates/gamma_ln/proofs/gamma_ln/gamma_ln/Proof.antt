@@ -1,10 +1,8 @@
 -- `gamma_ln::gamma_ln::gamma_ln` meets its contract: each way by the tests that led to it. Assumes nothing.
 use mathlib.Core.Path.{sym, _∙_, subst}
 use lib.Dec.{T}
-use lib.Ieee.{lt}
-use Rattle.machine.specs.Constants.{gammaLnMinimum}
 use Rattle.gamma_ln.specs.GammaLn.{isTabulated, gammaLnOf}
-use Rattle.gamma_ln.proofs.Arguments.{tabulated-positive, below-positive}
+use Rattle.gamma_ln.proofs.Arguments.{tabulated-positive}
 use borrow.Author.Needs.{needs}
 use Rattle.gamma_ln.proofs.gamma_ln.gamma_ln.Statement.{statement}
 use Rattle.gamma_ln.proofs.gamma_ln.gamma_ln.Tie as tie
@@ -17,7 +15,7 @@ unfolding gammaLnOf
 returns c = simp (c .not-a-number .ensures, c .before .if1 .taken)
 
 is-tabulated-requires : tie.Need-is-tabulated-requires
-is-tabulated-requires c κs = search needs
+is-tabulated-requires c κs = c .if1 .left
 
 tabulated-requires : tie.Need-tabulated-requires
 tabulated-requires c κs =
@@ -32,28 +30,14 @@ returns-2 c =
     let d = c .before .before in
     simp (c .tabulated .ensures, d .before .if1 .left, sym (d .is-tabulated .ensures) ∙ c .before .if2 .taken)
 
-shifted-requires : tie.Need-shifted-requires
-unfolding gammaLnMinimum
-shifted-requires c κs =
-    let d = c .before .before .before in
-    let x = d .before .args .x in
-    let t : T (lt x gammaLnMinimum) = subst T (sym (c .if3 .taken)) tt in
-    (below-positive x (d .if1 .left) t, t)
+summed-requires : tie.Need-summed-requires
+summed-requires c κs = c .before .before .if1 .left
 
 returns-3 : tie.Need-returns-3
-unfolding gammaLnOf gammaLnMinimum
+unfolding gammaLnOf
 returns-3 c =
-    let d = c .before .before .before in
-    simp (c .shifted .ensures, d .before .if1 .left, sym (d .is-tabulated .ensures) ∙ c .before .before .if2 .left, c .before .if3 .taken)
-
-stirling-requires : tie.Need-stirling-requires
-stirling-requires c κs = search needs
-
-returns-4 : tie.Need-returns-4
-unfolding gammaLnOf gammaLnMinimum
-returns-4 c =
-    let d = c .before .before .before in
-    simp (c .stirling .ensures, d .before .if1 .left, sym (d .is-tabulated .ensures) ∙ c .before .before .if2 .left, c .before .if3 .left)
+    let d = c .before .before in
+    simp (c .summed .ensures, d .before .if1 .left, sym (d .is-tabulated .ensures) ∙ c .before .if2 .left)
 
 pub gamma-ln-spec : {M : Type 1} → statement M
 gamma-ln-spec =
@@ -64,7 +48,5 @@ gamma-ln-spec =
     is-tabulated-requires
     tabulated-requires
     returns-2
-    shifted-requires
-    returns-3
-    stirling-requires
-    returns-4)
+    summed-requires
+    returns-3)

@@ -1,5 +1,8 @@
 -- `gamma_ln::log_gamma::log_gamma` meets its contract: the verdict, and the value behind it. Assumes nothing.
-use Rattle.gamma_ln.specs.LogGamma.{logGammaBy, logGammaOf}
+use mathlib.Core.Path.{_≡_, ap, _∙_}
+use Rattle.gamma_ln.specs.declared.log_gamma.LogGamma.the-variants.{Refused}
+use Rattle.gamma_ln.specs.LogGamma.{logGammaBy, logGammaOf, outcomeOf}
+use Rattle.gamma_ln.proofs.LogGammaFacts.{steps-outcome}
 use borrow.Author.Needs.{needs}
 use Rattle.gamma_ln.proofs.log_gamma.log_gamma.Statement.{statement}
 use Rattle.gamma_ln.proofs.log_gamma.log_gamma.Tie as tie
@@ -10,8 +13,8 @@ argument-verdict-requires c κs = search needs
 enum-told : tie.Need-enum-told
 enum-told c = search needs
 
-gamma-ln-requires : tie.Need-gamma-ln-requires
-gamma-ln-requires c κs = search needs
+value-requires : tie.Need-value-requires
+value-requires c κs = search needs
 
 valued-requires : tie.Need-valued-requires
 valued-requires c κs = search needs
@@ -23,11 +26,16 @@ returns : tie.Need-returns
 unfolding logGammaOf logGammaBy
 returns c =
     let d = c .before .before in
-    rw (← d .before .before .argument-verdict .ensures, d .enum-told .given .1, ← c .before .gamma-ln .ensures) (c .valued .ensures)
+    let e : c .valued .result ≡ logGammaOf (d .before .before .before .args .x) =
+    rw (← d .before .before .argument-verdict .ensures, d .enum-told .given .1, ← c .before .value .ensures) (c .valued .ensures) in
+    ap outcomeOf e ∙ steps-outcome _
 
 returns-2 : tie.Need-returns-2
 unfolding logGammaOf logGammaBy
-returns-2 c = rw (← c .before .before .before .argument-verdict .ensures, c .before .verdict .given .1)
+returns-2 c =
+    let d = c .before .before .before in
+    let e : Refused (c .before .verdict .given .0 .0) ≡ logGammaOf (d .before .args .x) = rw (← d .argument-verdict .ensures, c .before .verdict .given .1) in
+    ap outcomeOf e ∙ steps-outcome _
 
 pub log-gamma-spec : {M : Type 1} → statement M
 log-gamma-spec =
@@ -35,7 +43,7 @@ log-gamma-spec =
     (tie.spec
     argument-verdict-requires
     enum-told
-    gamma-ln-requires
+    value-requires
     valued-requires
     enum-known-verdict
     returns

@@ -1,11 +1,12 @@
 -- `gamma_ln::series::is_below` meets its contract. Assumes nothing.
+use Rattle.laws.proofs.Sign.{lt-neg-l}
 use Rattle.gamma_ln.specs.Series.{isBelow}
 use Rattle.gamma_ln.proofs.series.is_below.Statement.{statement}
 use Rattle.gamma_ln.proofs.series.is_below.Tie as tie
 
 returns : tie.Need-returns
 unfolding isBelow
-returns c = simp (c .if1 .taken)
+returns c = simp (c .if1 .taken, lt-neg-l (c .before .args .bound) (c .before .args .term))
 
 returns-2 : tie.Need-returns-2
 unfolding isBelow

@@ -1,8 +1,312 @@
 -- `gamma_ln_tables::tables::whole_value` meets its contract at each of 101 entries. Written by tools/tables/gamma_ln.py. Assumes nothing.
+use borrow.Author.Needs.{needs}
 use Rattle.laws.proofs.Arms.{last}
 use Rattle.gamma_ln_tables.specs.Tables.{wholeValues}
 use Rattle.gamma_ln_tables.proofs.tables.whole_value.Statement.{statement}
 use Rattle.gamma_ln_tables.proofs.tables.whole_value.Tie as tie
+
+array-read-result : tie.Need-array-read-result
+array-read-result c = search needs
+
+array-read-result-2 : tie.Need-array-read-result-2
+array-read-result-2 c = search needs
+
+array-read-result-3 : tie.Need-array-read-result-3
+array-read-result-3 c = search needs
+
+array-read-result-4 : tie.Need-array-read-result-4
+array-read-result-4 c = search needs
+
+array-read-result-5 : tie.Need-array-read-result-5
+array-read-result-5 c = search needs
+
+array-read-result-6 : tie.Need-array-read-result-6
+array-read-result-6 c = search needs
+
+array-read-result-7 : tie.Need-array-read-result-7
+array-read-result-7 c = search needs
+
+array-read-result-8 : tie.Need-array-read-result-8
+array-read-result-8 c = search needs
+
+array-read-result-9 : tie.Need-array-read-result-9
+array-read-result-9 c = search needs
+
+array-read-result-10 : tie.Need-array-read-result-10
+array-read-result-10 c = search needs
+
+array-read-result-11 : tie.Need-array-read-result-11
+array-read-result-11 c = search needs
+
+array-read-result-12 : tie.Need-array-read-result-12
+array-read-result-12 c = search needs
+
+array-read-result-13 : tie.Need-array-read-result-13
+array-read-result-13 c = search needs
+
+array-read-result-14 : tie.Need-array-read-result-14
+array-read-result-14 c = search needs
+
+array-read-result-15 : tie.Need-array-read-result-15
+array-read-result-15 c = search needs
+
+array-read-result-16 : tie.Need-array-read-result-16
+array-read-result-16 c = search needs
+
+array-read-result-17 : tie.Need-array-read-result-17
+array-read-result-17 c = search needs
+
+array-read-result-18 : tie.Need-array-read-result-18
+array-read-result-18 c = search needs
+
+array-read-result-19 : tie.Need-array-read-result-19
+array-read-result-19 c = search needs
+
+array-read-result-20 : tie.Need-array-read-result-20
+array-read-result-20 c = search needs
+
+array-read-result-21 : tie.Need-array-read-result-21
+array-read-result-21 c = search needs
+
+array-read-result-22 : tie.Need-array-read-result-22
+array-read-result-22 c = search needs
+
+array-read-result-23 : tie.Need-array-read-result-23
+array-read-result-23 c = search needs
+
+array-read-result-24 : tie.Need-array-read-result-24
+array-read-result-24 c = search needs
+
+array-read-result-25 : tie.Need-array-read-result-25
+array-read-result-25 c = search needs
+
+array-read-result-26 : tie.Need-array-read-result-26
+array-read-result-26 c = search needs
+
+array-read-result-27 : tie.Need-array-read-result-27
+array-read-result-27 c = search needs
+
+array-read-result-28 : tie.Need-array-read-result-28
+array-read-result-28 c = search needs
+
+array-read-result-29 : tie.Need-array-read-result-29
+array-read-result-29 c = search needs
+
+array-read-result-30 : tie.Need-array-read-result-30
+array-read-result-30 c = search needs
+
+array-read-result-31 : tie.Need-array-read-result-31
+array-read-result-31 c = search needs
+
+array-read-result-32 : tie.Need-array-read-result-32
+array-read-result-32 c = search needs
+
+array-read-result-33 : tie.Need-array-read-result-33
+array-read-result-33 c = search needs
+
+array-read-result-34 : tie.Need-array-read-result-34
+array-read-result-34 c = search needs
+
+array-read-result-35 : tie.Need-array-read-result-35
+array-read-result-35 c = search needs
+
+array-read-result-36 : tie.Need-array-read-result-36
+array-read-result-36 c = search needs
+
+array-read-result-37 : tie.Need-array-read-result-37
+array-read-result-37 c = search needs
+
+array-read-result-38 : tie.Need-array-read-result-38
+array-read-result-38 c = search needs
+
+array-read-result-39 : tie.Need-array-read-result-39
+array-read-result-39 c = search needs
+
+array-read-result-40 : tie.Need-array-read-result-40
+array-read-result-40 c = search needs
+
+array-read-result-41 : tie.Need-array-read-result-41
+array-read-result-41 c = search needs
+
+array-read-result-42 : tie.Need-array-read-result-42
+array-read-result-42 c = search needs
+
+array-read-result-43 : tie.Need-array-read-result-43
+array-read-result-43 c = search needs
+
+array-read-result-44 : tie.Need-array-read-result-44
+array-read-result-44 c = search needs
+
+array-read-result-45 : tie.Need-array-read-result-45
+array-read-result-45 c = search needs
+
+array-read-result-46 : tie.Need-array-read-result-46
+array-read-result-46 c = search needs
+
+array-read-result-47 : tie.Need-array-read-result-47
+array-read-result-47 c = search needs
+
+array-read-result-48 : tie.Need-array-read-result-48
+array-read-result-48 c = search needs
+
+array-read-result-49 : tie.Need-array-read-result-49
+array-read-result-49 c = search needs
+
+array-read-result-50 : tie.Need-array-read-result-50
+array-read-result-50 c = search needs
+
+array-read-result-51 : tie.Need-array-read-result-51
+array-read-result-51 c = search needs
+
+array-read-result-52 : tie.Need-array-read-result-52
+array-read-result-52 c = search needs
+
+array-read-result-53 : tie.Need-array-read-result-53
+array-read-result-53 c = search needs
+
+array-read-result-54 : tie.Need-array-read-result-54
+array-read-result-54 c = search needs
+
+array-read-result-55 : tie.Need-array-read-result-55
+array-read-result-55 c = search needs
+
+array-read-result-56 : tie.Need-array-read-result-56
+array-read-result-56 c = search needs
+
+array-read-result-57 : tie.Need-array-read-result-57
+array-read-result-57 c = search needs
+
+array-read-result-58 : tie.Need-array-read-result-58
+array-read-result-58 c = search needs
+
+array-read-result-59 : tie.Need-array-read-result-59
+array-read-result-59 c = search needs
+
+array-read-result-60 : tie.Need-array-read-result-60
+array-read-result-60 c = search needs
+
+array-read-result-61 : tie.Need-array-read-result-61
+array-read-result-61 c = search needs
+
+array-read-result-62 : tie.Need-array-read-result-62
+array-read-result-62 c = search needs
+
+array-read-result-63 : tie.Need-array-read-result-63
+array-read-result-63 c = search needs
+
+array-read-result-64 : tie.Need-array-read-result-64
+array-read-result-64 c = search needs
+
+array-read-result-65 : tie.Need-array-read-result-65
+array-read-result-65 c = search needs
+
+array-read-result-66 : tie.Need-array-read-result-66
+array-read-result-66 c = search needs
+
+array-read-result-67 : tie.Need-array-read-result-67
+array-read-result-67 c = search needs
+
+array-read-result-68 : tie.Need-array-read-result-68
+array-read-result-68 c = search needs
+
+array-read-result-69 : tie.Need-array-read-result-69
+array-read-result-69 c = search needs
+
+array-read-result-70 : tie.Need-array-read-result-70
+array-read-result-70 c = search needs
+
+array-read-result-71 : tie.Need-array-read-result-71
+array-read-result-71 c = search needs
+
+array-read-result-72 : tie.Need-array-read-result-72
+array-read-result-72 c = search needs
+
+array-read-result-73 : tie.Need-array-read-result-73
+array-read-result-73 c = search needs
+
+array-read-result-74 : tie.Need-array-read-result-74
+array-read-result-74 c = search needs
+
+array-read-result-75 : tie.Need-array-read-result-75
+array-read-result-75 c = search needs
+
+array-read-result-76 : tie.Need-array-read-result-76
+array-read-result-76 c = search needs
+
+array-read-result-77 : tie.Need-array-read-result-77
+array-read-result-77 c = search needs
+
+array-read-result-78 : tie.Need-array-read-result-78
+array-read-result-78 c = search needs
+
+array-read-result-79 : tie.Need-array-read-result-79
+array-read-result-79 c = search needs
+
+array-read-result-80 : tie.Need-array-read-result-80
+array-read-result-80 c = search needs
+
+array-read-result-81 : tie.Need-array-read-result-81
+array-read-result-81 c = search needs
+
+array-read-result-82 : tie.Need-array-read-result-82
+array-read-result-82 c = search needs
+
+array-read-result-83 : tie.Need-array-read-result-83
+array-read-result-83 c = search needs
+
+array-read-result-84 : tie.Need-array-read-result-84
+array-read-result-84 c = search needs
+
+array-read-result-85 : tie.Need-array-read-result-85
+array-read-result-85 c = search needs
+
+array-read-result-86 : tie.Need-array-read-result-86
+array-read-result-86 c = search needs
+
+array-read-result-87 : tie.Need-array-read-result-87
+array-read-result-87 c = search needs
+
+array-read-result-88 : tie.Need-array-read-result-88
+array-read-result-88 c = search needs
+
+array-read-result-89 : tie.Need-array-read-result-89
+array-read-result-89 c = search needs
+
+array-read-result-90 : tie.Need-array-read-result-90
+array-read-result-90 c = search needs
+
+array-read-result-91 : tie.Need-array-read-result-91
+array-read-result-91 c = search needs
+
+array-read-result-92 : tie.Need-array-read-result-92
+array-read-result-92 c = search needs
+
+array-read-result-93 : tie.Need-array-read-result-93
+array-read-result-93 c = search needs
+
+array-read-result-94 : tie.Need-array-read-result-94
+array-read-result-94 c = search needs
+
+array-read-result-95 : tie.Need-array-read-result-95
+array-read-result-95 c = search needs
+
+array-read-result-96 : tie.Need-array-read-result-96
+array-read-result-96 c = search needs
+
+array-read-result-97 : tie.Need-array-read-result-97
+array-read-result-97 c = search needs
+
+array-read-result-98 : tie.Need-array-read-result-98
+array-read-result-98 c = search needs
+
+array-read-result-99 : tie.Need-array-read-result-99
+array-read-result-99 c = search needs
+
+array-read-result-100 : tie.Need-array-read-result-100
+array-read-result-100 c = search needs
+
+array-read-result-101 : tie.Need-array-read-result-101
+array-read-result-101 c = search needs
 
 returns : tie.Need-returns
 unfolding wholeValues
@@ -412,6 +716,107 @@ pub whole-value-spec : {M : Type 1} → statement M
 whole-value-spec =
     tie.close
     (tie.spec
+    array-read-result
+    array-read-result-2
+    array-read-result-3
+    array-read-result-4
+    array-read-result-5
+    array-read-result-6
+    array-read-result-7
+    array-read-result-8
+    array-read-result-9
+    array-read-result-10
+    array-read-result-11
+    array-read-result-12
+    array-read-result-13
+    array-read-result-14
+    array-read-result-15
+    array-read-result-16
+    array-read-result-17
+    array-read-result-18
+    array-read-result-19
+    array-read-result-20
+    array-read-result-21
+    array-read-result-22
+    array-read-result-23
+    array-read-result-24
+    array-read-result-25
+    array-read-result-26
+    array-read-result-27
+    array-read-result-28
+    array-read-result-29
+    array-read-result-30
+    array-read-result-31
+    array-read-result-32
+    array-read-result-33
+    array-read-result-34
+    array-read-result-35
+    array-read-result-36
+    array-read-result-37
+    array-read-result-38
+    array-read-result-39
+    array-read-result-40
+    array-read-result-41
+    array-read-result-42
+    array-read-result-43
+    array-read-result-44
+    array-read-result-45
+    array-read-result-46
+    array-read-result-47
+    array-read-result-48
+    array-read-result-49
+    array-read-result-50
+    array-read-result-51
+    array-read-result-52
+    array-read-result-53
+    array-read-result-54
+    array-read-result-55
+    array-read-result-56
+    array-read-result-57
+    array-read-result-58
+    array-read-result-59
+    array-read-result-60
+    array-read-result-61
+    array-read-result-62
+    array-read-result-63
+    array-read-result-64
+    array-read-result-65
+    array-read-result-66
+    array-read-result-67
+    array-read-result-68
+    array-read-result-69
+    array-read-result-70
+    array-read-result-71
+    array-read-result-72
+    array-read-result-73
+    array-read-result-74
+    array-read-result-75
+    array-read-result-76
+    array-read-result-77
+    array-read-result-78
+    array-read-result-79
+    array-read-result-80
+    array-read-result-81
+    array-read-result-82
+    array-read-result-83
+    array-read-result-84
+    array-read-result-85
+    array-read-result-86
+    array-read-result-87
+    array-read-result-88
+    array-read-result-89
+    array-read-result-90
+    array-read-result-91
+    array-read-result-92
+    array-read-result-93
+    array-read-result-94
+    array-read-result-95
+    array-read-result-96
+    array-read-result-97
+    array-read-result-98
+    array-read-result-99
+    array-read-result-100
+    array-read-result-101
     returns
     returns-2
     returns-3

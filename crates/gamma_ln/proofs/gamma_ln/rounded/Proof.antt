@@ -1,0 +1,19 @@
+-- `gamma_ln::gamma_ln::rounded` meets its contract: the even whole number, or one more. Assumes nothing.
+use mathlib.Core.Path.{sym, subst}
+use lib.Dec.{T}
+use Rattle.gamma_ln.proofs.Nearest.{rounded-down, rounded-up}
+use Rattle.gamma_ln.proofs.gamma_ln.rounded.Statement.{statement}
+use Rattle.gamma_ln.proofs.gamma_ln.rounded.Tie as tie
+
+returns : tie.Need-returns
+returns c =
+    let s = c .before in
+    rounded-down (s .args .x) (subst T (sym (s .good .0 .1)) tt) (s .pre .0) (s .pre .1) (subst T (sym (c .if1 .taken)) tt)
+
+returns-2 : tie.Need-returns-2
+returns-2 c =
+    let s = c .before in
+    rounded-up (s .args .x) (subst T (sym (s .good .0 .1)) tt) (s .pre .0) (s .pre .1) (c .if1 .left)
+
+pub rounded-spec : {M : Type 1} → statement M
+rounded-spec = tie.close (tie.spec returns returns-2)

@@ -1,1 +1,2 @@
 pub mod AllFinite
+pub mod shapes

@@ -38,7 +38,7 @@ complexLnOf z = lnWith (modulusOf z) (argumentOf z)
 unfoldable pub atHalfAngle : Float → Float → Complex
 atHalfAngle root angle = polarOf root (angle ⊘ two)
 
--- 2/z (ZBKNU's RZ, src/amos/utils.rs two_over_z_safe): with t = 1/|z| and s = (re t, -im t), each part of s doubled, then times t
+-- 2/z (ZBKNU's RZ, src/amos/utils.rs two_over_z_safe): the conjugate times t = 1/|z|, added to itself, times t
 unfoldable pub twoOverWith : Complex → Float → Complex
 twoOverWith z modulus =
     let t = one ⊘ modulus in

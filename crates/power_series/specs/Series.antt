@@ -19,6 +19,6 @@ powerSeriesIf false scaled turned v z m n = visitOf (settingOf scaled turned v z
 unfoldable pub powerSeriesOf : Bool → Bool → Float → Complex → Float → ℕ → Visited
 powerSeriesOf scaled turned v z m n = powerSeriesIf (lt m underflowLimit) scaled turned v z m n
 
--- refusal 5, |z|²·0.25 > (v + (n - 1)) + 1: ZBINU's test at the highest order (`i_right_half_plane` of src/amos/right_half_plane.rs)
+-- refusal 5, where a quarter of |z|² is above the highest order plus 1: ZBINU's test (`i_right_half_plane` of src/amos/right_half_plane.rs)
 unfoldable pub beyondSeries : Float → ℕ → Float → Bool
 beyondSeries v n m = lt (orderPlusOne v (n - 1)) (m ⊗ m ⊗ quarter)

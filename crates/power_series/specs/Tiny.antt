@@ -12,7 +12,7 @@ use Rattle.power_series.specs.Visit.{Visited}
 unfoldable pub lowestOf : Float → Float
 lowestOf v = cond (eq v nothing) one nothing
 
--- the count is 0 for z = 0, else n, or n - 1 for v = 0
+-- none is counted at z = 0; elsewhere all n are, or all but the first where v is 0
 unfoldable pub zerosOf : Float → Float → ℕ → ℕ
 zerosOf v m n = cond (eq m nothing) 0 (cond (eq v nothing) (n - 1) n)
 

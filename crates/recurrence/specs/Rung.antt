@@ -20,7 +20,7 @@ factorOf twoOverZ baseOrder i = timesReal twoOverZ (add binary64 baseOrder (ofIn
 unfoldable pub nextOf : Complex → Complex → Complex → Complex
 nextOf factor older newer = plusOf older (productOf factor newer)
 
--- the larger magnitude of the parts exceeds b; a not-a-number part does not count
+-- a part is beyond b in magnitude; a part that is not a number is not
 unfoldable pub exceeds : Float → Complex → Bool
 exceeds b w = lt b (magnitudeOf (w .re)) || lt b (magnitudeOf (w .im))
 
@@ -30,7 +30,7 @@ passes NearUnder entry = exceeds (boundaryOf NearUnder) entry
 passes None entry = exceeds (boundaryOf None) entry
 passes NearOver entry = false
 
--- the older value takes the old reciprocal, the newer one becomes the entry, both take the new scale
+-- the older value comes off the scale that is left, the entry stands for the newer, and both go on the scale that is entered
 unfoldable pub movedClimb : Complex → Complex → OverflowState → ℕ → Climb
 movedClimb older entry state rungs =
     let factor = scaleOf (movedOn state) in

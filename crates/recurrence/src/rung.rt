@@ -36,7 +36,7 @@ fn leaves(state: OverflowState, entry: Complex) -> bool
     }
 }
 
-// the older value takes the old reciprocal, the newer one becomes the entry, both take the new scale
+// the older value comes off the scale that is left, the entry stands for the newer, and both go on the scale that is entered
 fn moved(older: Complex, entry: Complex, state: OverflowState, rungs: u32) -> Climb
     ensures { λ r. ⌜ r ≡ movedClimb older entry state rungs ⌝ }
 {

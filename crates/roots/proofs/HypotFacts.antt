@@ -1,4 +1,4 @@
--- Wherever hypot of finite numbers is normal, its square is within one part in 2^40 of the sum of the squares (`hypot-close`): the sum is close, its root is close, and the power of two is taken back. Assumes nothing.
+-- Where hypot of finite x and y is normal, x² + y² and its square are equal up to one part in 2^40 (`hypot-close`): the sum is close, its root is close, and the power of two is taken back. Assumes nothing.
 use mathlib.Core.Path.{_≡_, refl, sym, ap, _∙_, subst}
 use mathlib.Core.Bool.{Bool, true, false}
 use Prim.Native.Nat.{ℕ, zero, suc, _+_, _-_, _*_, _^_, _≤_, _<_}

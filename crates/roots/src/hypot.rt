@@ -1,7 +1,7 @@
 // The length of the vector (x, y). With an infinite part it is infinite, else with a not-a-number not-a-number; beside a zero it is the
 // other part's magnitude. Own design: the sum of the squares, scaled where it leaves [2^-800, 2^1000], and a root of its own from the seed
-// and one Heron step, so that sqrt's method does not enter. Promised: equal to its definition; the square is within one part in 2^40 of the
-// sum of the squares. Measured error 1.58 units in the last place.
+// and one Heron step, so that sqrt's method does not enter. Promised: equal to its definition; its square is off the
+// sum of the squares by one part in 2^40 at most. Measured error 1.58 units in the last place.
 ghost use mathlib.Core.Path.{_≡_};
 ghost use mathlib.Core.Bool.{false, _&&_};
 ghost use lib.Ieee.{le};

@@ -1,2 +1,4 @@
 -- The theorems, by topic.
+pub mod SquareLimit
 pub mod StepFacts
+pub mod MarkFacts

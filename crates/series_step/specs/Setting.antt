@@ -4,9 +4,11 @@
 use mathlib.Core.Bool.{Bool, true, false}
 use Prim.Native.Nat.{ℕ}
 use lib.IntN.{pos}
-use lib.Ieee.{Float, binary64, ofBits, ofInt, lt}
+use lib.Ieee.{Float, binary64, ofInt, lt}
 use Rattle.laws.specs.Operators.{_⊕_, _⊗_}
+use Rattle.machine.specs.Constants.{underflowLimit}
 use Rattle.machine.specs.Small.{half, one}
+use Rattle.roots.specs.Sqrt.{sqrtOf}
 use Rattle.complex.specs.declared.number.Complex.{Complex}
 use Rattle.complex.specs.Arithmetic.{zeroPair, oppositeOf, timesReal}
 use Rattle.complex.specs.Functions.{powerOf, twoOverWith, complexLnOf}
@@ -24,9 +26,9 @@ orderPlusOne v k = orderAt v k ⊕ one
 unfoldable pub halfSquare : Float → Float
 halfSquare m = let h = m ⊗ half in h ⊗ h
 
--- the root of the underflow limit, 4.7170688552396617e-153 (RTR1)
+-- the root of the underflow limit (RTR1), 4.7170688552396617e-153
 unfoldable pub squareLimit : Float
-squareLimit = ofBits binary64 0x204F9F6E4990F227
+squareLimit = sqrtOf underflowLimit
 
 -- h squared, or 0 where that would underflow (CZ)
 unfoldable pub squareIf : Bool → Complex → Complex

@@ -4,14 +4,14 @@ ghost use mathlib.Core.Path.{_≡_};
 ghost use Rattle.series_step.specs.Leading.{leadingOf};
 use crate::setting::Setting;
 use complex::number::Complex;
-use gamma_ln::gamma_ln::gamma_ln;
+use gamma_ln::gamma_ln::value;
 
 pub fn leading(g: Setting, order: f64) -> Complex
     ensures { λ r. ⌜ r ≡ leadingOf g order ⌝ }
 {
     let logarithm = g.ln_half_z;
-    let below = gamma_ln(order + 1.0);
-    let lead = logarithm.times_real(order).minus_real(below.value);
+    let below = value(order + 1.0);
+    let lead = logarithm.times_real(order).minus_real(below);
     if g.scaled {
         return lead.minus_real(g.re);
     }

@@ -1,40 +1,40 @@
--- What a call of K comes to, on every input: one outcome, each number exactly when, the counts of an answer, and what the cells then hold. Assumes nothing.
+-- What a call of K comes to, on every input: each number exactly when, the counts of an answer, and what the cells then hold. Assumes nothing.
 use mathlib.Core.Path.{_≡_, refl, sym, ap, _∙_, subst}
 use mathlib.Core.Logic.{_⊎_, inl, inr}
-use mathlib.Core.Bool.{Bool, true, false, not, cond}
-use mathlib.Core.List.{List, [], _∷_, _++_}
+use mathlib.Core.Bool.{Bool, true, not}
+use mathlib.Core.List.{List, [], _∷_}
 use Prim.Native.Nat.{ℕ, _+_, _-_, _*_, _/_, _≤_, _<_}
 use native.Mathlib.Omega.{arith}
 use lib.IntN.{pos}
+use lib.Dec.{T}
 use lib.ListN.{drop, take, replicate, length-replicate}
 use lib.ListN.{length as length-of}
 use lib.Ieee.{Float, binary64, ofBits}
 use Rattle.machine.specs.Constants.{notANumber}
 use Rattle.cells.specs.AllFinite.{allFinite}
-use Rattle.refusal.specs.Number.{numberOf}
-use Rattle.refusal.specs.declared.refusal.Refusal.{Refusal}
 use Rattle.refusal.specs.declared.refusal.Refusal.the-variants as refusals
 use Rattle.refusal.proofs.Distinct.{never-zero}
 use Rattle.call.specs.declared.answer.Answer.{Answer}
 use Rattle.call.specs.Answer.{answeredOf, refusedOf}
-use Rattle.call.specs.Checks.{Check, refusedIf, verdictFrom, verdictOf, numberGiven, noneApplies, numbersOf, lengthChecks, finiteChecks, limitChecks}
-use Rattle.call.proofs.FirstFacts.{Given}
+use Rattle.call.specs.Checks.{check, refusedIf, verdictFrom, verdictOf, numberGiven, noneApplies, numbersOf, lengthChecks, finiteChecks, limitChecks}
+use Rattle.call.proofs.FirstFacts.{Given, isOneOf}
 use Rattle.call.proofs.LimitFacts.{lent}
 use Rattle.right_half_plane.specs.declared.kernel.Counts.{Counts}
 use Rattle.right_half_plane.specs.declared.kernel.Ending as kernels
 use Rattle.right_half_plane.specs.declared.kernel.Ending.the-variants as ended
 use Rattle.right_half_plane.specs.Ground.{nearestOrder, groundOf}
 use Rattle.right_half_plane.specs.Seeds.{seedOf}
-use Rattle.right_half_plane.specs.Kernel.{Kernel, kernelOf}
 use Rattle.right_half_plane.proofs.Answers.{Answers, kernel-answers, kernel-terms}
 use Rattle.right_half_plane.proofs.Delivered.{Delivers, kernel-delivers}
+use Rattle.right_half_plane.specs.Refusals.{startRefused, climbRefused}
+use Rattle.right_half_plane.proofs.RefusalFacts.{refuses, start-exactly, climb-exactly}
 use Rattle.bessel.specs.declared.arguments.Arguments.{Arguments}
 use Rattle.bessel.specs.Arguments.{argumentsOf}
 use Rattle.bessel.specs.Checks.{argumentChecks, kOwnChecks, kChecks}
-use Rattle.bessel.specs.Outcome.{Outcome, Steps, Delivered, Stopped, refusedOutcome, judgedOf, concludedOf, callOutcome}
-use Rattle.bessel.specs.K.{kernelBy, countsAnswer, kernelSteps, kSteps, kOutcome, refuses, kernelChecks, allKChecks}
+use Rattle.bessel.specs.Outcome.{Outcome, Delivered, refusedOutcome, judgedOf, concludedOf}
+use Rattle.bessel.specs.K.{kernelBy, countsAnswer, kernelSteps, kSteps, kOutcome, groundBy, kernelChecks, allKChecks}
 use Rattle.bessel.proofs.CheckFacts.{k-passed}
-use Rattle.bessel.proofs.CallFacts.{no-other, judged-number, RefusedWhole, refused-facts, Ended, refused, answered, ends, numbered}
+use Rattle.bessel.proofs.CallFacts.{judged-number, RefusedWhole, refused-facts, Ended, refused, answered, ends, numbered, one-of}
 
 -- ---- how the kernel's steps end: refusal 6, 7, or neither
 data EndsWith (o : kernels.Ending) : Type 0 where
@@ -56,11 +56,14 @@ counts-number : (c : Counts) → countsAnswer c .number ≡ 0
 unfolding countsAnswer answeredOf
 counts-number c = refl
 
-later-by : (length : ℕ) (o : kernels.Ending) (cells : List Float) → EndsWith o → numberGiven (verdictOf (kernelChecks (record { ending = o; cells = cells }))) ≡ concludedOf length (kernelSteps o cells) .answer .number
-unfolding verdictOf verdictFrom refusedIf numberGiven kernelChecks kernelSteps concludedOf judgedOf refusedOutcome refusedOf
-later-by length o cells (by-answer counts e) = rw e (judged-number (allFinite cells) length (countsAnswer counts) cells (counts-number counts))
-later-by length o cells (by-start e) = rw e
-later-by length o cells (by-climb e) = rw e
+-- with refusals 6 and 7 by their own words
+later-by :
+    (length : ℕ) (o : kernels.Ending) (cells : List Float) (b c : Bool) → b ≡ refuses refusals.Start o → c ≡ refuses refusals.Climb o → EndsWith o →
+    numberGiven (verdictOf (check b refusals.Start ∷ check c refusals.Climb ∷ check (not (allFinite cells)) refusals.Overflow ∷ [])) ≡ concludedOf length (kernelSteps o cells) .answer .number
+unfolding verdictOf verdictFrom refusedIf numberGiven kernelSteps concludedOf judgedOf refusedOutcome refusedOf
+later-by length o cells b c p q (by-answer counts e) = rw (p, q, e) (judged-number (allFinite cells) length (countsAnswer counts) cells (counts-number counts))
+later-by length o cells b c p q (by-start e) = rw (p, q, e)
+later-by length o cells b c p q (by-climb e) = rw (p, q, e)
 
 -- the numbers that K can give besides 0, in the order of the checks
 pub listed : (scaled : Bool) (a : Arguments) (length : ℕ) → numbersOf (allKChecks scaled a length) ≡ 1 ∷ 2 ∷ 3 ∷ 3 ∷ 3 ∷ 4 ∷ 6 ∷ 7 ∷ 8 ∷ []
@@ -103,18 +106,20 @@ delivery (ended.Answered c) l answer from cells e =
 delivery (ended.Refused r) l answer from cells e = absurd (let z : _≡_ {A = ℕ} 0 1 = cc in omega arith)
 
 module _ (scaled : Bool) (v re im : Float) (length : ℕ) where
-  -- the contract of `k` leaves no second outcome
-  pub only-outcome :
-      (p q : Outcome) → let o = kOutcome scaled v re im length in (p .answer ≡ o .answer) × (p .cells ≡ o .cells) → (q .answer ≡ o .answer) × (q .cells ≡ o .cells) → p ≡ q
-  only-outcome p q e f = no-other (kOutcome scaled v re im length) p q e f
-
   -- the number, exactly when, and no other than the list's
   pub numbers : Given (allKChecks scaled (argumentsOf v re im) length) (kOutcome scaled v re im length .answer .number)
-  unfolding allKChecks kOutcome kSteps
+  unfolding allKChecks kernelChecks groundBy kernelBy kOutcome kSteps
   numbers =
       let a = argumentsOf v re im in
       let k = kernelBy scaled a length in
-      numbered (kChecks a length) (kernelChecks k) length (kernelSteps (k .ending) (k .cells)) (later-by length (k .ending) (k .cells) (kernel-ends scaled a length))
+      let g = groundBy a length in
+      numbered (kChecks a length) (kernelChecks scaled a length) length (kernelSteps (k .ending) (k .cells))
+      (later-by length (k .ending) (k .cells) (startRefused g) (climbRefused g scaled)
+      (start-exactly scaled (a .order) (a .z) (a .modulus) (length / 2)) (climb-exactly scaled (a .order) (a .z) (a .modulus) (length / 2)) (kernel-ends scaled a length))
+
+  -- so no number but these
+  pub admitted : T (isOneOf (kOutcome scaled v re im length .answer .number) (0 ∷ 1 ∷ 2 ∷ 3 ∷ 4 ∷ 6 ∷ 7 ∷ 8 ∷ []))
+  admitted = let cs = allKChecks scaled (argumentsOf v re im) length in one-of (kOutcome scaled v re im length .answer .number) cs (4 ∷ 6 ∷ 7 ∷ 8 ∷ []) numbers (listed scaled (argumentsOf v re im) length)
 
   whole-by : let a = argumentsOf v re im in Ended (kChecks a length) length (kSteps scaled a length) →
       RefusedWhole length (kOutcome scaled v re im length) ⊎ AnsweredWhole scaled (argumentsOf v re im) length (kOutcome scaled v re im length)

@@ -1,10 +1,12 @@
--- What a call by the power series comes to, on every input and for either sign: one outcome, each number exactly when, and what the cells then hold. Assumes nothing.
+-- What a call by the power series comes to, on every input and for either sign: each number exactly when, and what the cells then hold. Assumes nothing.
 use mathlib.Core.Path.{_≡_, refl, sym, ap, _∙_, subst}
 use mathlib.Core.Logic.{_⊎_, inl, inr}
-use mathlib.Core.Bool.{Bool, true, false, not, cond}
-use mathlib.Core.List.{List, [], _∷_, _++_}
-use Prim.Native.Nat.{ℕ, _*_, _/_, _<_}
+use mathlib.Core.Bool.{Bool, true, false}
+use mathlib.Core.List.{List, [], _∷_}
+use Prim.Native.Nat.{ℕ, zero, suc, _-_, _*_, _/_, _≤_, _<_}
 use native.Mathlib.Omega.{arith}
+use lib.Dec.{T}
+use lib.IntN.{natAbs}
 use lib.ListN.{drop, length-replicate}
 use lib.ListN.{length as length-of}
 use lib.Ieee.{Float}
@@ -12,20 +14,19 @@ use Rattle.machine.specs.Constants.{notANumber}
 use Rattle.cells.specs.AllFinite.{allFinite}
 use Rattle.refusal.proofs.Distinct.{never-zero}
 use Rattle.call.specs.declared.answer.Answer.{Answer}
-use Rattle.call.specs.Answer.{answeredOf}
-use Rattle.call.specs.Checks.{Check, refusedIf, verdictFrom, verdictOf, numberGiven, noneApplies, numbersOf, lengthChecks, finiteChecks, limitChecks}
-use Rattle.call.proofs.FirstFacts.{Given}
+use Rattle.call.specs.Answer.{signedOf, answeredOf}
+use Rattle.call.specs.Checks.{refusedIf, verdictFrom, verdictOf, numberGiven, noneApplies, numbersOf, lengthChecks, finiteChecks, limitChecks}
+use Rattle.call.proofs.FirstFacts.{Given, isOneOf}
 use Rattle.call.proofs.LimitFacts.{lent}
 use Rattle.power_series.specs.Visit.{Visited}
-use Rattle.power_series.specs.Series.{powerSeriesOf}
 use Rattle.bessel.specs.declared.arguments.Arguments.{Arguments}
 use Rattle.bessel.specs.Arguments.{argumentsOf}
 use Rattle.bessel.specs.Checks.{argumentChecks, seriesOwnChecks, seriesChecks}
-use Rattle.bessel.specs.Outcome.{Outcome, Steps, Delivered, judgedOf, concludedOf, callOutcome}
+use Rattle.bessel.specs.Outcome.{Outcome, Delivered, judgedOf, concludedOf}
 use Rattle.bessel.specs.Series.{visitedBy, visitAnswer, visitSteps, seriesOutcome, visitChecks, allSeriesChecks}
 use Rattle.bessel.proofs.CheckFacts.{series-passed}
 use Rattle.power_series.proofs.SeriesFacts.{series-fits}
-use Rattle.bessel.proofs.CallFacts.{no-other, judged-number, RefusedWhole, refused-facts, Ended, refused, answered, ends, numbered}
+use Rattle.bessel.proofs.CallFacts.{judged-number, RefusedWhole, refused-facts, Ended, refused, answered, ends, numbered, one-of}
 
 answer-number : (w : Visited) → visitAnswer w .number ≡ 0
 unfolding visitAnswer answeredOf
@@ -51,12 +52,21 @@ pub record AnsweredWhole (scaled turned : Bool) (a : Arguments) (length : ℕ) (
   pub answer : o .answer ≡ visitAnswer (visitedBy scaled turned a length)
   pub cells : o .cells ≡ visitedBy scaled turned a length .cells
 
-module _ (scaled turned : Bool) (v re im : Float) (length : ℕ) where
-  -- the contract leaves no second outcome
-  pub only-outcome :
-      (p q : Outcome) → let o = seriesOutcome scaled turned v re im length in (p .answer ≡ o .answer) × (p .cells ≡ o .cells) → (q .answer ≡ o .answer) × (q .cells ≡ o .cells) → p ≡ q
-  only-outcome p q e f = no-other (seriesOutcome scaled turned v re im length) p q e f
+-- the counts of an answer are those of the visit's steps, and how large each can be: of n orders no more zeros, no sum above 19 terms, no step of the recurrence at
+-- the two highest orders, and no backward step
+pub record Counted (scaled turned : Bool) (a : Arguments) (length : ℕ) (o : Outcome) : Type 0 where
+  pub steps : o .answer ≡ visitAnswer (visitedBy scaled turned a length)
+  pub zeros : natAbs (o .answer .zeros) ≤ length / 2
+  pub longest-sum : o .answer .«longest_sum» ≤ 19
+  pub rungs : o .answer .rungs ≤ length / 2 - 2
+  pub backward : o .answer .backward ≡ 0
 
+signed-magnitude : (b : Bool) (n : ℕ) → natAbs (signedOf b n) ≡ n
+signed-magnitude true zero = refl
+signed-magnitude true (suc n) = refl
+signed-magnitude false n = refl
+
+module _ (scaled turned : Bool) (v re im : Float) (length : ℕ) where
   -- the number, exactly when, and no other than the list's
   pub numbers : Given (allSeriesChecks scaled turned (argumentsOf v re im) length) (seriesOutcome scaled turned v re im length .answer .number)
   unfolding allSeriesChecks seriesOutcome
@@ -64,6 +74,12 @@ module _ (scaled turned : Bool) (v re im : Float) (length : ℕ) where
       let a = argumentsOf v re im in
       let w = visitedBy scaled turned a length in
       numbered (seriesChecks a length) (visitChecks w) length (visitSteps w) (later-number length w)
+
+  -- so no number but these
+  pub admitted : T (isOneOf (seriesOutcome scaled turned v re im length .answer .number) (0 ∷ 1 ∷ 2 ∷ 3 ∷ 5 ∷ 8 ∷ []))
+  admitted =
+      let cs = allSeriesChecks scaled turned (argumentsOf v re im) length in
+      one-of (seriesOutcome scaled turned v re im length .answer .number) cs (5 ∷ 8 ∷ []) numbers (listed scaled turned (argumentsOf v re im) length)
 
   -- ---- how a call ends
   delivered :
@@ -115,3 +131,21 @@ module _ (scaled turned : Bool) (v re im : Float) (length : ℕ) where
             let f = series-fits (length / 2) (omega arith) scaled turned (b .order) (b .z) (b .modulus) in
             ap length-of (a .cells) ∙ f .cells ∙ omega arith
       ]
+
+  -- the counts of every answered call
+  pub answered-counts : seriesOutcome scaled turned v re im length .answer .number ≡ 0 → Counted scaled turned (argumentsOf v re im) length (seriesOutcome scaled turned v re im length)
+  unfolding visitedBy visitAnswer answeredOf
+  answered-counts h =
+      let b = argumentsOf v re im in
+      let a = answered-whole h in
+      let w = visitedBy scaled turned b length .visit in
+      let l = lent length (series-passed b length (a .passed) .0 .lent) in
+      let f = series-fits (length / 2) (omega arith) scaled turned (b .order) (b .z) (b .modulus) in
+      let few : w .zeros ≤ length / 2 = f .zeros in
+      record {
+        steps = a .answer;
+        zeros = subst (λ (n : ℕ). n ≤ length / 2) (sym (ap (λ (x : Answer). natAbs (x .zeros)) (a .answer) ∙ signed-magnitude (w .stopped) (w .zeros))) few;
+        longest-sum = subst (λ (x : Answer). x .«longest_sum» ≤ 19) (sym (a .answer)) (f .longest);
+        rungs = subst (λ (x : Answer). x .rungs ≤ length / 2 - 2) (sym (a .answer)) (f .rungs);
+        backward = ap (λ (x : Answer). x .backward) (a .answer);
+      }

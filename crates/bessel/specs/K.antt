@@ -2,16 +2,16 @@
 use mathlib.Core.Bool.{Bool, false, not}
 use mathlib.Core.List.{List, [], _∷_, _++_}
 use Prim.Native.Nat.{ℕ, _/_, _≤_}
-use lib.Dec.{eqb}
 use lib.Ieee.{Float}
-use Rattle.refusal.specs.Number.{numberOf}
-use Rattle.refusal.specs.declared.refusal.Refusal.{Refusal}
 use Rattle.refusal.specs.declared.refusal.Refusal.the-variants.{Start, Climb, Overflow}
 use Rattle.cells.specs.AllFinite.{allFinite}
 use Rattle.right_half_plane.specs.declared.kernel.Counts.{Counts}
 use Rattle.right_half_plane.specs.declared.kernel.Ending as kernels
 use Rattle.right_half_plane.specs.declared.kernel.Ending.the-variants as ended
+use Rattle.right_half_plane.specs.declared.ground.Ground.{Ground}
+use Rattle.right_half_plane.specs.Ground.{groundOf}
 use Rattle.right_half_plane.specs.Kernel.{Kernel, kernelOf}
+use Rattle.right_half_plane.specs.Refusals.{startRefused, climbRefused}
 use Rattle.call.specs.declared.answer.Answer.{Answer}
 use Rattle.call.specs.Answer.{signedOf, answeredOf}
 use Rattle.call.specs.Checks.{Check, check}
@@ -42,19 +42,18 @@ kOutcome scaled v re im length =
     callOutcome (kChecks a length) length (kSteps scaled a length)
 
 -- ---- all checks, those that the steps answer too: 6, 7 and 8 are the last
-abbrev pub refuses : Refusal → kernels.Ending → Bool
-refuses refusal (ended.Answered c) = false
-refuses refusal (ended.Refused r) = eqb (numberOf r) (numberOf refusal)
+unfoldable pub groundBy : Arguments → ℕ → Ground
+groundBy a length = groundOf (a .order) (a .z) (a .modulus) (length / 2)
 
-unfoldable pub kernelChecks : Kernel → List Check
-kernelChecks k =
-    check (refuses Start (k .ending)) Start
-    ∷ check (refuses Climb (k .ending)) Climb
-    ∷ check (not (allFinite (k .cells))) Overflow
+unfoldable pub kernelChecks : Bool → Arguments → ℕ → List Check
+kernelChecks scaled a length =
+    check (startRefused (groundBy a length)) Start
+    ∷ check (climbRefused (groundBy a length) scaled) Climb
+    ∷ check (not (allFinite (kernelBy scaled a length .cells))) Overflow
     ∷ []
 
 unfoldable pub allKChecks : Bool → Arguments → ℕ → List Check
-allKChecks scaled a length = kChecks a length ++ kernelChecks (kernelBy scaled a length)
+allKChecks scaled a length = kChecks a length ++ kernelChecks scaled a length
 
 -- zeros that a count of the record can hold
 abbrev pub Fewer : kernels.Ending → Type 0

@@ -3,6 +3,7 @@ pub mod WholeFacts
 pub mod StartFacts
 pub mod TrialFacts
 pub mod BackwardFacts
+pub mod NoStartFacts
 pub mod Outcome
 pub mod RealPath
 pub mod Examples

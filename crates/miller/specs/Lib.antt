@@ -3,6 +3,7 @@ pub mod Whole
 pub mod Point
 pub mod Trials
 pub mod Search
+pub mod NoStart
 pub mod Backward
 pub mod Seeds
 pub mod shapes

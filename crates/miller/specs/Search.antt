@@ -19,7 +19,7 @@ use Rattle.miller.specs.Whole.{truncated}
 use Rattle.miller.specs.Point.{isReal}
 use Rattle.miller.specs.Trials.{whole, trialIndex}
 
--- FK at label 180, which ZBKNU truncates as it is: here it is refused if it is no finite number, -1 or less, or above 256 once truncated
+-- FK at label 180, which ZBKNU truncates as it is: a start here is finite, above -1, and at most 256 when its fraction is dropped
 unfoldable pub isStart : Float → Bool
 isStart raw = finite raw && lt (neg one) raw && leb (truncated raw) 256
 

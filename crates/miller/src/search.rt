@@ -16,7 +16,7 @@ use roots::sqrt::sqrt;
 
 pub enum Start {
     At(u32),
-    // 30 trials unmet, or the start not a number, -1 or less, or above 256 once truncated
+    // no trial passed, or what was found is no start: not finite, not above -1, or beyond 256 without its fraction
     Unmet,
 }
 
@@ -34,7 +34,7 @@ fn start_from(raw: f64) -> Start
 // (2/3)·52 - 6
 const THRESHOLD: f64 = 28.666666666666664;
 
-// The angle keeps its sign: Algorithm 644 takes its magnitude.
+// With the sign of the angle; ZBKNU has its magnitude here.
 fn angle_correction(modulus: f64, angle: f64) -> f64
     ensures { λ r. ⌜ r ≡ angleCorrection modulus angle ⌝ }
 {

@@ -1,4 +1,4 @@
--- No two refusals have one number, and none has the number 0, which an answer has. Assumes nothing.
+-- No two refusals have one number, none has the number 0, which an answer has, and each fits one byte. Assumes nothing.
 use mathlib.Core.Path.{_≡_, refl, sym, ap, _∙_}
 use mathlib.Core.List.{[], _∷_}
 use Prim.Native.Nat.{ℕ, _<_}
@@ -28,14 +28,21 @@ read-back NotPositive = refl
 pub distinct : (r s : Refusal) → numberOf r ≡ numberOf s → r ≡ s
 distinct r s e = sym (read-back r) ∙ ap caseOf e ∙ read-back s
 
+-- a number fits one byte
+in-a-byte : (r : Refusal) → (0 < numberOf r) × (numberOf r < 256)
+in-a-byte Length = (lit< tt, lit< tt)
+in-a-byte NotFinite = (lit< tt, lit< tt)
+in-a-byte Domain = (lit< tt, lit< tt)
+in-a-byte Zero = (lit< tt, lit< tt)
+in-a-byte Series = (lit< tt, lit< tt)
+in-a-byte Start = (lit< tt, lit< tt)
+in-a-byte Climb = (lit< tt, lit< tt)
+in-a-byte Overflow = (lit< tt, lit< tt)
+in-a-byte Malformed = (lit< tt, lit< tt)
+in-a-byte NotPositive = (lit< tt, lit< tt)
+
 pub never-zero : (r : Refusal) → 0 < numberOf r
-never-zero Length = lit< tt
-never-zero NotFinite = lit< tt
-never-zero Domain = lit< tt
-never-zero Zero = lit< tt
-never-zero Series = lit< tt
-never-zero Start = lit< tt
-never-zero Climb = lit< tt
-never-zero Overflow = lit< tt
-never-zero Malformed = lit< tt
-never-zero NotPositive = lit< tt
+never-zero r = in-a-byte r .0
+
+pub one-byte : (r : Refusal) → numberOf r < 256
+one-byte r = in-a-byte r .1

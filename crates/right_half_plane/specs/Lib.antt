@@ -6,4 +6,5 @@ pub mod Kernel
 pub mod Lead
 pub mod Reach
 pub mod Recover
+pub mod Refusals
 pub mod Seeds

@@ -1,4 +1,4 @@
--- The seed stage of K, as ZBKNU and `k_right_half_plane` of src/amos/right_half_plane.rs have it: one finished value, a pair of seeds, or a refusal.
+-- The seed stage of K, as ZBKNU and `k_right_half_plane` of src/amos/right_half_plane.rs have it: it hands on the answer's one value, two seeds, or a refusal.
 -- Definitions only.
 use mathlib.Core.Bool.{Bool, not, _&&_, cond}
 use lib.Ieee.{le}

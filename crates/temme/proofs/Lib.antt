@@ -1,4 +1,5 @@
 -- The theorems, by topic.
+pub mod BegunEnds
 pub mod Counted
 pub mod DifferenceBound
 pub mod GammasAtZero

@@ -3,4 +3,5 @@ pub mod Difference
 pub mod Gammas
 pub mod Sum
 pub mod Seeds
+pub mod Begun
 pub mod shapes

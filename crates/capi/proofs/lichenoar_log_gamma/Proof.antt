@@ -1,5 +1,6 @@
 -- `lichenoar_log_gamma` meets its contract: the outcome is taken apart, case by case. Assumes nothing.
 use borrow.Author.Needs.{needs}
+use Rattle.gamma_ln.proofs.LogGammaFacts.{defined}
 use Rattle.capi.proofs.lichenoar_log_gamma.Statement.{statement}
 use Rattle.capi.proofs.lichenoar_log_gamma.Tie as tie
 
@@ -19,10 +20,15 @@ number-requires : tie.Need-number-requires
 number-requires c κs = search needs
 
 returns : tie.Need-returns
-returns c = rw (← c .before .before .before .log-gamma .ensures, c .before .outcome .given .1)
+returns c =
+    let d = c .before .before .before in
+    rw (← defined (d .before .args .x) (d .log-gamma .result) (d .log-gamma .ensures), c .before .outcome .given .1)
 
 returns-2 : tie.Need-returns-2
-returns-2 c = simp (c .number .ensures, c .before .not-a-number .ensures) (rw (← c .before .before .before .before .before .log-gamma .ensures, c .before .before .before .outcome2 .given .1))
+returns-2 c =
+    let d = c .before .before .before in
+    let l = d .before .before in
+    simp (c .number .ensures, c .before .not-a-number .ensures) (rw (← defined (l .before .args .x) (l .log-gamma .result) (l .log-gamma .ensures), d .outcome2 .given .1))
 
 pub lichenoar-log-gamma-spec : {M : Type 1} → statement M
 lichenoar-log-gamma-spec =

@@ -2,4 +2,7 @@
 pub mod LengthRefused
 pub mod LineFacts
 pub mod AnswerLines
+pub mod FeedFacts
+pub mod WholeInput
 pub mod Examples
+pub mod FieldsRead

@@ -1,11 +1,10 @@
 -- The answer line from its parts: by what was parsed, how long it is, into lent bytes, and from the first 57 bytes of a line alone.
 -- Assumes nothing.
-use mathlib.Core.Path.{_≡_, refl, sym, ap, _∙_}
+use mathlib.Core.Path.{_≡_, refl, ap, _∙_}
 use mathlib.Core.Bool.{Bool, true, false}
 use mathlib.Core.List.{List}
 use Prim.Native.Nat.{ℕ, _+_, _*_, _≤_}
 use native.Mathlib.Omega.{arith}
-use borrow.Author.Tests.{le-leb}
 use lib.Ieee.{Float}
 use lib.ListN.{length, take}
 use Rattle.refusal.specs.declared.refusal.Refusal.the-variants as refusals
@@ -22,17 +21,18 @@ use Rattle.frame.specs.declared.asking.Asking.{Asking}
 use Rattle.frame.specs.declared.asking.Parsed.{Parsed}
 use Rattle.frame.specs.declared.asking.Parsed.the-variants.{Asked, Malformed}
 use Rattle.frame.specs.Layout.{floatWidth, recordLength, longestLine}
-use Rattle.frame.specs.Over.{over}
+use Rattle.frame.specs.Over.{over, offered}
 use Rattle.frame.specs.Asking.{framedOf, askedOf, askedIn, parsedOf}
 use Rattle.frame.specs.Writing.{recordOf, lineOf}
 use Rattle.frame.proofs.AskingFacts.{parsed-kept}
+use Rattle.frame.proofs.OverFacts.{offered-room}
 use Rattle.frame.proofs.WriteFacts.{record-length, line-length, line-most}
 use Rattle.bessel.specs.Outcome.{Outcome}
 use Rattle.bessel.specs.I.{iOutcome}
 use Rattle.bessel.proofs.KernelOutcome as kernel
 use Rattle.bessel.proofs.SeriesOutcome as series
 use Rattle.answering.specs.Called.{calledAs, calledOf, outcomeLine, calledLine}
-use Rattle.answering.specs.Line.{outcomeOf, answerLineOf, parsedLine, sizeInto, bytesInto}
+use Rattle.answering.specs.Line.{outcomeOf, answerLineOf, parsedLine, bytesInto}
 use Rattle.answering.proofs.LengthRefused.{refused-line, length-refused}
 
 -- ---- by what was parsed
@@ -51,14 +51,6 @@ asked-line line a e = ap (λ (p : Parsed). outcomeLine (outcomeOf p)) e
 pub malformed-line : (line : List ℕ) → parsedOf line ≡ Malformed → answerLineOf line ≡ recordOf (refusedOf refusals.Malformed)
 unfolding answerLineOf outcomeOf
 malformed-line line e = ap (λ (p : Parsed). outcomeLine (outcomeOf p)) e ∙ refused-line refusals.Malformed 0
-
--- ---- into lent bytes: where there is room for the longest line, the line
-pub roomy : (d line : List ℕ) → longestLine ≤ length d → (sizeInto (length d) line ≡ length (answerLineOf line)) × (bytesInto d line ≡ over 0 (answerLineOf line) d)
-unfolding sizeInto bytesInto
-roomy d line h = simp (le-leb longestLine (length d) h) (refl, refl)
-
-pub into : (d line out : List ℕ) (n : ℕ) → longestLine ≤ length d → n ≡ length (answerLineOf line) → out ≡ over 0 (answerLineOf line) d → (n ≡ sizeInto (length d) line) × (out ≡ bytesInto d line)
-into d line out n h f g = let r = roomy d line h in (f ∙ sym (r .0), g ∙ sym (r .1))
 
 -- ---- how long it is
 outcome-length : (o : Outcome) → length (outcomeLine o) ≤ recordLength + length (o .cells) * floatWidth
@@ -99,6 +91,14 @@ parsed-bound Malformed = omega (arith, ap length (refused-line refusals.Malforme
 pub line-bound : (line : List ℕ) → length (answerLineOf line) ≤ longestLine
 unfolding answerLineOf
 line-bound line = parsed-bound (parsedOf line)
+
+-- ---- into lent bytes: room for the longest line is room for any
+pub parsed-roomy : (p : Parsed) (d : List ℕ) → longestLine ≤ length d → offered (parsedLine p) d ≡ over 0 (parsedLine p) d
+parsed-roomy p d h = offered-room (parsedLine p) d (omega (arith, parsed-bound p))
+
+pub roomy : (d line : List ℕ) → longestLine ≤ length d → bytesInto d line ≡ over 0 (answerLineOf line) d
+unfolding answerLineOf
+roomy d line h = parsed-roomy (parsedOf line) d h
 
 -- ---- a line of another length is malformed whatever it holds, so that the first 57 bytes say all
 pub kept : (line : List ℕ) → answerLineOf (take 57 line) ≡ answerLineOf line

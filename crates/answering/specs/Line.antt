@@ -1,14 +1,10 @@
 -- The answer line of a line, byte by byte, for every line (docs/SCOPE.md, The frame program). Definitions only.
-use mathlib.Core.Bool.{cond}
 use mathlib.Core.List.{List}
 use Prim.Native.Nat.{ℕ, _*_}
-use lib.Dec.{leb}
-use lib.ListN.{length}
 use Rattle.refusal.specs.declared.refusal.Refusal.the-variants as refusals
 use Rattle.frame.specs.declared.asking.Parsed.{Parsed}
 use Rattle.frame.specs.declared.asking.Parsed.the-variants.{Asked, Malformed}
-use Rattle.frame.specs.Layout.{longestLine}
-use Rattle.frame.specs.Over.{over}
+use Rattle.frame.specs.Over.{offered}
 use Rattle.frame.specs.Asking.{parsedOf}
 use Rattle.bessel.specs.Outcome.{Outcome, refusedOutcome}
 use Rattle.answering.specs.Called.{calledOf, outcomeLine}
@@ -24,9 +20,6 @@ answerLineOf line = outcomeLine (outcomeOf (parsedOf line))
 abbrev pub parsedLine : Parsed → List ℕ
 parsedLine p = outcomeLine (outcomeOf p)
 
--- ---- into lent bytes: behind the line's end they stay, and fewer than the longest line's are left alone
-unfoldable pub sizeInto : ℕ → List ℕ → ℕ
-sizeInto room line = cond (leb longestLine room) (length (answerLineOf line)) 0
-
-unfoldable pub bytesInto : List ℕ → List ℕ → List ℕ
-bytesInto d line = cond (leb longestLine (length d)) (over 0 (answerLineOf line) d) d
+-- ---- into lent bytes: behind the line's end they stay, and fewer than this line's are left alone
+abbrev pub bytesInto : List ℕ → List ℕ → List ℕ
+bytesInto d line = offered (answerLineOf line) d

@@ -1,11 +1,11 @@
 // What a frame asks, answered: the call on cells of its own, or refusal 1 where no buffer is that long. A frame of few pairs clears few
-// cells. Promised: the line of calledOf of specs/Called.antt, and its length.
+// cells. Promised: the line of calledOf of specs/Called.antt where the lent bytes have room for it, and its length whether or not they have.
 ghost use mathlib.Core.Path.{_≡_};
 ghost use Prim.Native.Nat.{_*_, _≤_};
 ghost use lib.ListN.{length};
 ghost use Rattle.call.specs.Answer.{refusedOf};
-ghost use Rattle.frame.specs.Layout.{recordLength, longestLine};
-ghost use Rattle.frame.specs.Over.{over};
+ghost use Rattle.frame.specs.Layout.{recordLength};
+ghost use Rattle.frame.specs.Over.{offered};
 ghost use Rattle.frame.specs.Writing.{recordOf};
 ghost use Rattle.answering.specs.Called.{calledOf, calledLine};
 use bessel::i::i;
@@ -16,17 +16,19 @@ use call::kind::Kind;
 use call::limits::LARGEST_COUNT;
 use frame::asking::Asking;
 use frame::layout::RECORD_LENGTH;
-use frame::writing::write_answer;
+use frame::writing::offer_answer;
 use frame::writing::write_record;
 use refusal::refusal::Refusal;
 
 const FEW: usize = 16;
 
 pub fn refuse(refusal: Refusal, out: &mut [u8]) -> usize
-    requires { ⌜ recordLength ≤ length (now out) ⌝ }
     ensures { λ r. ⌜ (r ≡ recordLength)
-        × (now (out .exit) ≡ over 0 (recordOf (refusedOf refusal)) (now (out .entry))) ⌝ }
+        × (now (out .exit) ≡ offered (recordOf (refusedOf refusal)) (now (out .entry))) ⌝ }
 {
+    if out.len() < RECORD_LENGTH {
+        return RECORD_LENGTH;
+    }
     write_record(refused(refusal), out);
     RECORD_LENGTH
 }
@@ -44,19 +46,18 @@ fn call(asking: Asking, cells: &mut [f64]) -> Answer
 
 fn on_cells(asking: Asking, cells: &mut [f64], out: &mut [u8]) -> usize
     requires { ⌜ (length (now cells) ≡ asking .count * 2)
-        × (asking .count ≤ 512)
-        × (longestLine ≤ length (now out)) ⌝ }
+        × (asking .count ≤ 512) ⌝ }
     ensures { λ r. ⌜ (r ≡ length (calledLine asking))
-        × (now (out .exit) ≡ over 0 (calledLine asking) (now (out .entry))) ⌝ }
+        × (now (out .exit) ≡ offered (calledLine asking) (now (out .entry))) ⌝ }
 {
     let answer = call(asking, cells);
-    write_answer(answer, cells, out)
+    offer_answer(answer, cells, out)
 }
 
 fn with_few(asking: Asking, out: &mut [u8]) -> usize
-    requires { ⌜ (asking .count ≤ 16) × (longestLine ≤ length (now out)) ⌝ }
+    requires { ⌜ asking .count ≤ 16 ⌝ }
     ensures { λ r. ⌜ (r ≡ length (calledLine asking))
-        × (now (out .exit) ≡ over 0 (calledLine asking) (now (out .entry))) ⌝ }
+        × (now (out .exit) ≡ offered (calledLine asking) (now (out .entry))) ⌝ }
 {
     let mut cells = [0.0; 32];
     let n = asking.count * 2;
@@ -64,9 +65,9 @@ fn with_few(asking: Asking, out: &mut [u8]) -> usize
 }
 
 fn with_many(asking: Asking, out: &mut [u8]) -> usize
-    requires { ⌜ (asking .count ≤ 512) × (longestLine ≤ length (now out)) ⌝ }
+    requires { ⌜ asking .count ≤ 512 ⌝ }
     ensures { λ r. ⌜ (r ≡ length (calledLine asking))
-        × (now (out .exit) ≡ over 0 (calledLine asking) (now (out .entry))) ⌝ }
+        × (now (out .exit) ≡ offered (calledLine asking) (now (out .entry))) ⌝ }
 {
     let mut cells = [0.0; 1024];
     let n = asking.count * 2;
@@ -75,9 +76,8 @@ fn with_many(asking: Asking, out: &mut [u8]) -> usize
 
 // No pair at all is left to the call, which refuses it for its length too.
 pub fn answer_asking(asking: Asking, out: &mut [u8]) -> usize
-    requires { ⌜ longestLine ≤ length (now out) ⌝ }
     ensures { λ r. ⌜ (r ≡ length (calledLine asking))
-        × (now (out .exit) ≡ over 0 (calledLine asking) (now (out .entry))) ⌝ }
+        × (now (out .exit) ≡ offered (calledLine asking) (now (out .entry))) ⌝ }
 {
     if asking.count > LARGEST_COUNT {
         return refuse(Refusal::Length, out);

@@ -1,24 +1,20 @@
 // The answer line of a line, which is lent without its newline. It is written over the first of the lent bytes, and its length is returned.
-// From docs/SCOPE.md, The frame program. Promised for every line: answerLineOf of specs/Line.antt. Where fewer bytes are lent than the
-// longest line has, nothing is written and 0 is returned, which no answer line's length is.
+// From docs/SCOPE.md, The frame program. Promised for every line: answerLineOf of specs/Line.antt. Where fewer bytes are lent than this line
+// has, nothing is written; the length returned says how many it needs.
 ghost use mathlib.Core.Path.{_≡_};
-ghost use Prim.Native.Nat.{_≤_};
 ghost use lib.ListN.{length};
-ghost use Rattle.frame.specs.Layout.{longestLine};
-ghost use Rattle.frame.specs.Over.{over};
-ghost use Rattle.answering.specs.Line.{parsedLine, sizeInto, bytesInto};
+ghost use Rattle.frame.specs.Over.{offered};
+ghost use Rattle.answering.specs.Line.{answerLineOf, parsedLine, bytesInto};
 use crate::called::answer_asking;
 use crate::called::refuse;
 use frame::asking::Parsed;
 use frame::asking::parse;
-use frame::layout::LONGEST_LINE;
 use refusal::refusal::Refusal;
 
 // What was parsed, answered.
 pub fn answer_parsed(parsed: Parsed, out: &mut [u8]) -> usize
-    requires { ⌜ longestLine ≤ length (now out) ⌝ }
     ensures { λ r. ⌜ (r ≡ length (parsedLine parsed))
-        × (now (out .exit) ≡ over 0 (parsedLine parsed) (now (out .entry))) ⌝ }
+        × (now (out .exit) ≡ offered (parsedLine parsed) (now (out .entry))) ⌝ }
 {
     match parsed {
         Parsed::Asked(asking) => answer_asking(asking, out),
@@ -27,11 +23,8 @@ pub fn answer_parsed(parsed: Parsed, out: &mut [u8]) -> usize
 }
 
 pub fn answer_line(line: &[u8], out: &mut [u8]) -> usize
-    ensures { λ r. ⌜ (r ≡ sizeInto (length (now (out .entry))) (now (line .entry)))
+    ensures { λ r. ⌜ (r ≡ length (answerLineOf (now (line .entry))))
         × (now (out .exit) ≡ bytesInto (now (out .entry)) (now (line .entry))) ⌝ }
 {
-    if out.len() < LONGEST_LINE {
-        return 0;
-    }
     answer_parsed(parse(line), out)
 }

@@ -1,12 +1,13 @@
 -- Bytes written over others: what was there keeps its length, and one part behind another is the two as one. Assumes nothing.
 use mathlib.Core.Path.{_≡_, sym, ap, _∙_}
 use mathlib.Core.List.{List, [], _++_, append-assoc}
-use Prim.Native.Nat.{ℕ, _+_, _≤_}
+use Prim.Native.Nat.{ℕ, _+_, _≤_, _<_}
 use native.Mathlib.Nat.{add-zero}
 use native.Mathlib.Omega.{arith}
+use borrow.Author.Tests.{le-leb, lt-leb}
 use lib.ListN.{length, take, drop, length-append, length-take, length-drop, take-append-drop}
 use lib.Seq.{take-at, drop-at, drop-drop, length-take-le}
-use Rattle.frame.specs.Over.{over}
+use Rattle.frame.specs.Over.{over, offered}
 
 module _ (at : ℕ) (p q d : List ℕ) where
   pub over-length : at + length p ≤ length d → length (over at p d) ≡ length d
@@ -49,3 +50,12 @@ module _ (at : ℕ) (p q d : List ℕ) where
 pub over-none : (at : ℕ) (d : List ℕ) → over at [] d ≡ d
 unfolding over
 over-none at d = ap (λ (k : ℕ). take at d ++ drop k d) (add-zero at) ∙ take-append-drop at d
+
+-- ---- offered: written where there is room, and else nothing
+pub offered-room : (p d : List ℕ) → length p ≤ length d → offered p d ≡ over 0 p d
+unfolding offered
+offered-room p d h = simp (le-leb (length p) (length d) h)
+
+pub offered-none : (p d : List ℕ) → length d < length p → offered p d ≡ d
+unfolding offered
+offered-none p d h = simp (lt-leb (length p) (length d) h)

@@ -56,6 +56,9 @@ backwardAt = 14
 abbrev pub recordLength : ℕ
 recordLength = 18
 
+abbrev pub longestCells : ℕ
+longestCells = 1024
+
 abbrev pub longestPairs : ℕ
 longestPairs = 16384
 

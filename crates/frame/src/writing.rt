@@ -1,10 +1,11 @@
 // An answer line written: the record, and behind the number 0 every cell by its bits.
-// From docs/SCOPE.md, The frame program. Promised: lineOf of specs/Writing.antt, over the first bytes of the lent ones.
+// From docs/SCOPE.md, The frame program. Promised: lineOf of specs/Writing.antt, over the first bytes of the lent ones; `offer_answer` asks for
+// no room, says how long the line is, and writes it where it fits.
 ghost use mathlib.Core.Path.{_≡_};
 ghost use Prim.Native.Nat.{_+_, _*_, _≤_};
 ghost use lib.ListN.{length};
-ghost use Rattle.frame.specs.Layout.{recordLength, floatWidth};
-ghost use Rattle.frame.specs.Over.{over};
+ghost use Rattle.frame.specs.Layout.{recordLength, floatWidth, longestCells};
+ghost use Rattle.frame.specs.Over.{over, offered};
 ghost use Rattle.frame.specs.Writing.{twosComplement, recordOf, cellsOf, lineOf};
 use crate::digits::spell;
 use crate::layout::BACKWARD_AT;
@@ -63,7 +64,7 @@ pub fn write_cells(cells: &[f64], out: &mut [u8], at: usize) -> usize
 }
 
 pub fn write_answer(answer: Answer, cells: &[f64], out: &mut [u8]) -> usize
-    requires { ⌜ recordLength + length (now cells) * floatWidth ≤ length (now out) ⌝ }
+    requires { ⌜ length (lineOf answer (now cells)) ≤ length (now out) ⌝ }
     ensures { λ r. ⌜ (r ≡ length (lineOf answer (now (cells .entry))))
         × (now (out .exit) ≡ over 0 (lineOf answer (now (cells .entry))) (now (out .entry))) ⌝ }
 {
@@ -72,4 +73,27 @@ pub fn write_answer(answer: Answer, cells: &[f64], out: &mut [u8]) -> usize
         return RECORD_LENGTH;
     }
     write_cells(cells, out, RECORD_LENGTH)
+}
+
+// The record, and behind the number 0 the cells.
+fn line_length(answer: Answer, cells: &[f64]) -> usize
+    requires { ⌜ length (now cells) ≤ longestCells ⌝ }
+    ensures { λ r. ⌜ r ≡ length (lineOf answer (now (cells .entry))) ⌝ }
+{
+    if answer.number != 0 {
+        return RECORD_LENGTH;
+    }
+    RECORD_LENGTH + cells.len() * FLOAT_WIDTH
+}
+
+pub fn offer_answer(answer: Answer, cells: &[f64], out: &mut [u8]) -> usize
+    requires { ⌜ length (now cells) ≤ longestCells ⌝ }
+    ensures { λ r. ⌜ (r ≡ length (lineOf answer (now (cells .entry))))
+        × (now (out .exit) ≡ offered (lineOf answer (now (cells .entry))) (now (out .entry))) ⌝ }
+{
+    let needed = line_length(answer, cells);
+    if out.len() < needed {
+        return needed;
+    }
+    write_answer(answer, cells, out)
 }

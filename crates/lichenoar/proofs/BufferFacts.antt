@@ -11,8 +11,9 @@ use Rattle.laws.proofs.Part.{rest-length, put-rest}
 use Rattle.frame.specs.Layout.{longestLine}
 use Rattle.frame.specs.Over.{over}
 use Rattle.frame.proofs.OverFacts.{over-length}
-use Rattle.lichenoar.specs.Lines.{newline}
-use Rattle.lichenoar.specs.Feed.{mostHeld, mostRoom, withLine}
+use Rattle.answering.specs.Lines.{newline}
+use Rattle.answering.specs.Feed.{mostHeld, withLine}
+use Rattle.lichenoar.specs.Feed.{mostRoom}
 
 -- ---- a line written behind what is written, and its newline
 pub record Closing (d l buffer : List ℕ) (f n : ℕ) : Type 0 where

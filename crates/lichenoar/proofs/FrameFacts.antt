@@ -17,9 +17,10 @@ use Rattle.frame.proofs.DigitFacts.{both}
 use Rattle.frame.proofs.AskingFacts.{framed-is}
 use Rattle.answering.specs.Line.{parsedLine}
 use Rattle.answering.proofs.LineFacts.{framed-line}
-use Rattle.lichenoar.specs.Lines.{newline}
-use Rattle.lichenoar.specs.Feed.{mostHeld, Feed, withLine, closedOf, stepOf, fedOf, feedOf, frameAhead}
-use Rattle.lichenoar.proofs.FeedFacts.{feed, step-newline, step-other, fed-snoc}
+use Rattle.answering.specs.Lines.{newline}
+use Rattle.answering.specs.Feed.{mostHeld, Feed, withLine, closedOf, stepOf, fedOf}
+use Rattle.lichenoar.specs.Feed.{feedOf, frameAhead}
+use Rattle.answering.proofs.FeedFacts.{feed, step-newline, step-other, fed-snoc}
 
 -- ---- digits are held one by one
 newline-no-digit : isDigit newline ≡ false

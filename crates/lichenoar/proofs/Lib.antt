@@ -1,5 +1,5 @@
 -- What the functions rest on, and what the program comes to.
-pub mod FeedFacts
 pub mod BufferFacts
-pub mod Program
+pub mod TurnFacts
+pub mod ServeFacts
 pub mod FrameFacts

@@ -1,3 +1,3 @@
 -- The definitions, by topic.
-pub mod Lines
 pub mod Feed
+pub mod Turn

@@ -1,12 +1,13 @@
 // Bytes of the input taken in order: kept, or the line closed and its answer line written behind the ones before, with its newline.
-// Promised: fedOf of specs/Feed.antt. Of a long line the first 57 bytes are kept, which say all that its answer depends on.
+// Promised: fedOf of crate answering's specs/Feed.antt. Of a long line the first 57 bytes are kept, which say all that its answer depends on.
 ghost use mathlib.Core.Path.{_≡_};
 ghost use mathlib.Core.List.{[], _∷_, _++_};
 ghost use Prim.Native.Nat.{_+_, _-_, _≤_, _<_};
 ghost use lib.ListN.{length, take, drop};
 ghost use Rattle.frame.specs.Asking.{askedOf};
 ghost use Rattle.answering.specs.Line.{parsedLine};
-ghost use Rattle.lichenoar.specs.Feed.{mostHeld, mostRoom, withLine, closedOf, stepOf, fedOf, feedOf, Within, frameAhead};
+ghost use Rattle.answering.specs.Feed.{mostHeld, withLine, closedOf, stepOf, fedOf};
+ghost use Rattle.lichenoar.specs.Feed.{mostRoom, feedOf, Within, frameAhead};
 use answering::line::answer_line;
 use answering::line::answer_parsed;
 use frame::asking::Fields;
@@ -15,7 +16,7 @@ use frame::asking::asked;
 use frame::asking::read_asking;
 use frame::layout::ASKING_LENGTH;
 
-const NEWLINE: u8 = 10;
+pub const NEWLINE: u8 = 10;
 
 const MOST_HELD: usize = 57;
 

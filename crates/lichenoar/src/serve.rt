@@ -1,86 +1,100 @@
-// The input in chunks to its end. No contract can say what a read gives or where written bytes go: stated is what is held between chunks.
+// The input in reads to its end. A read that fails is not the end: what was answered by then stays written, and the line that is held is not
+// answered. Promised of one read, whatever it reports and brings: Taken of specs/Turn.antt. No contract can say what a read brings, so of the
+// whole run stated is that some input has answers as long as what the writer took: the one that the reads brought.
 ghost use mathlib.Core.Path.{_≡_};
-ghost use mathlib.Core.Bool.{true};
 ghost use Prim.Native.Nat.{_≤_};
 ghost use lib.ListN.{length, take};
-ghost use Rattle.lichenoar.specs.Feed.{mostHeld, mostRoom, fedOf, feedOf};
-use crate::lines::advance;
-use crate::lines::close_line;
+ghost use Rattle.answering.specs.Feed.{mostHeld};
+ghost use Rattle.lichenoar.specs.Feed.{mostRoom};
+ghost use Rattle.lichenoar.specs.Turn.{AtEnd, Taken, OneRead, Served};
+use crate::deliver::consume;
+use crate::lines::NEWLINE;
+use crate::turn::State;
+use crate::turn::Turn;
+use crate::turn::is_over;
 use libc::STDIN_FILENO;
-use libc::STDOUT_FILENO;
 
-// What is held of a line, and whether there may be more to read.
-pub struct Turn {
-    pub held: usize,
-    pub going: bool,
-}
-
-// A chunk's answers are written when the chunk is done, and before that whenever the room runs short.
-fn consume(chunk: &[u8], line: &mut [u8], held: usize, out: &mut [u8]) -> Turn
+// The last line may lack its newline: it is answered as if it had one.
+fn finish(line: &mut [u8], held: usize, out: &mut [u8], sent: u64) -> Turn
     requires { ⌜ (length (now line) ≡ mostHeld) × (held ≤ mostHeld) × (mostRoom ≤ length (now out)) ⌝ }
-    ensures { λ r. ⌜ (r .held ≤ mostHeld)
-        × (r .going ≡ true
-        → take (r .held) (now (line .exit)) ≡ fedOf (feedOf (now (line .entry)) held (now (out .entry)) 0) (now (chunk .entry)) .held) ⌝ }
+    ensures { λ r. ⌜ AtEnd (take held (now (line .entry))) sent r ⌝ }
 {
-    let mut at = 0;
-    let mut kept = held;
-    while at < chunk.len() {
-        let progress = advance(chunk, at, line, kept, out);
-        let filled = progress.filled;
-        if !io::write_all(STDOUT_FILENO, &out[0..filled]) {
-            return Turn {
-                held: 0,
-                going: false,
-            };
-        }
-        kept = progress.held;
-        at = progress.at;
+    if held == 0 {
+        return Turn {
+            held,
+            sent,
+            state: State::Whole,
+        };
+    }
+    let end = [NEWLINE];
+    let last = consume(&end, line, held, out, sent);
+    let state = last.state;
+    if is_over(state) {
+        return last;
     }
     Turn {
-        held: kept,
-        going: true,
+        held: 0,
+        sent: last.sent,
+        state: State::Whole,
     }
 }
 
-// The last line may lack its newline.
-fn finish(line: &[u8], held: usize, out: &mut [u8])
-    requires { ⌜ (held ≤ length (now line)) × (mostRoom ≤ length (now out)) ⌝ }
-{
-    if held > 0 {
-        let filled = close_line(line, held, out, 0);
-        io::write_all(STDOUT_FILENO, &out[0..filled]);
-    }
-}
-
-fn serve_chunk(line: &mut [u8], held: usize, out: &mut [u8]) -> Turn
+// What a read reported and brought: a failure, the end, or some bytes.
+fn take_read(
+    got: isize,
+    input: &[u8],
+    line: &mut [u8],
+    held: usize,
+    out: &mut [u8],
+    sent: u64,
+) -> Turn
     requires { ⌜ (length (now line) ≡ mostHeld) × (held ≤ mostHeld) × (mostRoom ≤ length (now out)) ⌝ }
-    ensures { λ r. ⌜ r .held ≤ mostHeld ⌝ }
+    ensures { λ r. ⌜ Taken got (now (input .entry)) (take held (now (line .entry))) sent (now (line .exit)) r ⌝ }
+{
+    if got < 0 {
+        return Turn {
+            held,
+            sent,
+            state: State::Unread,
+        };
+    }
+    let n = io::count(got, input);
+    if n == 0 {
+        return finish(line, held, out, sent);
+    }
+    consume(&input[0..n], line, held, out, sent)
+}
+
+fn serve_read(line: &mut [u8], held: usize, out: &mut [u8], sent: u64) -> Turn
+    requires { ⌜ (length (now line) ≡ mostHeld) × (held ≤ mostHeld) × (mostRoom ≤ length (now out)) ⌝ }
+    ensures { λ r. ⌜ OneRead (take held (now (line .entry))) sent (now (line .exit)) r ⌝ }
 {
     let mut input = io::large_buffer();
     let got = libc::read(STDIN_FILENO, &mut input);
-    let n = io::count(got, &input);
-    if n == 0 {
-        finish(line, held, out);
-        return Turn {
-            held: 0,
-            going: false,
-        };
-    }
-    consume(&input[0..n], line, held, out)
+    take_read(got, &input, line, held, out, sent)
 }
 
 // A proved loop has to end, and nothing says that an input does: the turns are counted down from a number that no run uses up.
-pub fn serve(line: &mut [u8], out: &mut [u8])
+pub fn serve(line: &mut [u8], out: &mut [u8]) -> Turn
     requires { ⌜ (length (now line) ≡ mostHeld) × (mostRoom ≤ length (now out)) ⌝ }
+    ensures { λ r. ⌜ Served r ⌝ }
 {
     let mut held = 0;
+    let mut sent = 0;
     let mut turns = u64::MAX;
     while turns > 0 {
-        let next = serve_chunk(line, held, out);
-        if !next.going {
-            return;
+        let next = serve_read(line, held, out, sent);
+        let state = next.state;
+        if is_over(state) {
+            return next;
         }
         held = next.held;
+        sent = next.sent;
         turns -= 1;
+    }
+    Turn {
+        held,
+        sent,
+        state: State::Unread,
     }
 }

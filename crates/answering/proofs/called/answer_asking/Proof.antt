@@ -3,7 +3,7 @@ use mathlib.Core.Path.{sym, ap, _∙_}
 use mathlib.Core.List.{List}
 use Prim.Native.Nat.{ℕ, _*_}
 use lib.ListN.{length}
-use Rattle.frame.specs.Over.{over}
+use Rattle.frame.specs.Over.{offered}
 use Rattle.frame.proofs.WriteFacts.{record-length}
 use Rattle.answering.proofs.LengthRefused.{length-refused, too-many}
 use borrow.Author.Needs.{needs}
@@ -23,7 +23,7 @@ returns c =
     let s = i .before .before .before in
     let a = s .args .asking in
     let e = length-refused a (a .count * 2) (too-many (a .count) (i .if1 .taken)) in
-    (r .refuse .ensures .0 ∙ sym (ap length e ∙ record-length _), r .refuse .ensures .1 ∙ ap (λ (l : List ℕ). over 0 l (s .args .out .now)) (sym e))
+    (r .refuse .ensures .0 ∙ sym (ap length e ∙ record-length _), r .refuse .ensures .1 ∙ ap (λ (l : List ℕ). offered l (s .args .out .now)) (sym e))
 
 with-few-requires : tie.Need-with-few-requires
 with-few-requires c κs = search needs

@@ -4,7 +4,7 @@ use mathlib.Core.List.{List}
 use Prim.Native.Nat.{ℕ, _*_}
 use borrow.Author.Needs.{needs}
 use lib.ListN.{length}
-use Rattle.frame.specs.Over.{over}
+use Rattle.frame.specs.Over.{offered}
 use Rattle.answering.specs.Called.{calledOf}
 use Rattle.answering.proofs.LineFacts.{called-line}
 use Rattle.answering.proofs.called.on_cells.Statement.{statement}
@@ -13,8 +13,8 @@ use Rattle.answering.proofs.called.on_cells.Tie as tie
 call-requires : tie.Need-call-requires
 call-requires c κs = search needs
 
-write-answer-requires : tie.Need-write-answer-requires
-write-answer-requires c κs = search needs
+offer-answer-requires : tie.Need-offer-answer-requires
+offer-answer-requires c κs = search needs
 
 same-length : tie.Need-same-length
 same-length c = search needs
@@ -33,7 +33,7 @@ returns c =
     called-line (calledOf a (a .count * 2)) _ _
     (d .call .ensures .0 ∙ ap (λ (n : ℕ). calledOf a n .answer) p)
     (d .call .ensures .1 ∙ ap (λ (n : ℕ). calledOf a n .cells) p) in
-    (w .write-answer .ensures .0 ∙ ap length e, w .write-answer .ensures .1 ∙ ap (λ (l : List ℕ). over 0 l (s .args .out .now)) e)
+    (w .offer-answer .ensures .0 ∙ ap length e, w .offer-answer .ensures .1 ∙ ap (λ (l : List ℕ). offered l (s .args .out .now)) e)
 
 pub on-cells-spec : {M : Type 1} → statement M
-on-cells-spec = tie.close (tie.spec call-requires write-answer-requires same-length same-length-2 returns)
+on-cells-spec = tie.close (tie.spec call-requires offer-answer-requires same-length same-length-2 returns)

@@ -4,7 +4,7 @@ use mathlib.Core.List.{List}
 use Prim.Native.Nat.{ℕ}
 use lib.ListN.{length}
 use Rattle.refusal.specs.declared.refusal.Refusal.the-variants as refusals
-use Rattle.frame.specs.Over.{over}
+use Rattle.frame.specs.Over.{offered}
 use Rattle.frame.proofs.WriteFacts.{record-length}
 use Rattle.answering.specs.Line.{outcomeOf}
 use Rattle.answering.proofs.LengthRefused.{refused-line}
@@ -41,7 +41,7 @@ returns-2 c =
     let g = r .before .before in
     let out = g .before .before .before .args .out .now in
     let e = refused-line refusals.Malformed 0 in
-    rw (g .enum-told .given .1) (r .refuse .ensures .0 ∙ sym (ap length e ∙ record-length _), r .refuse .ensures .1 ∙ ap (λ (l : List ℕ). over 0 l out) (sym e))
+    rw (g .enum-told .given .1) (r .refuse .ensures .0 ∙ sym (ap length e ∙ record-length _), r .refuse .ensures .1 ∙ ap (λ (l : List ℕ). offered l out) (sym e))
 
 pub answer-parsed-spec : {M : Type 1} → statement M
 answer-parsed-spec =

@@ -1,18 +1,18 @@
 -- `frame::writing::write_answer` meets its contract: the record alone, or the cells behind it. Assumes nothing.
-use mathlib.Core.Path.{sym, ap, _∙_}
+use mathlib.Core.Path.{_≡_, sym, ap, _∙_}
 use mathlib.Core.List.{List}
-use Prim.Native.Nat.{ℕ, zero-le}
+use Prim.Native.Nat.{ℕ, _+_, _*_, zero-le}
 use native.Mathlib.Omega.{arith}
 use borrow.Author.Needs.{needs}
 use lib.ListN.{length}
 use Rattle.frame.specs.Over.{over}
-use Rattle.frame.specs.Writing.{recordOf, cellsOf}
-use Rattle.frame.proofs.WriteFacts.{over-next, record-length, line-refused, line-answered, line-length}
+use Rattle.frame.specs.Writing.{recordOf, cellsOf, lineOf}
+use Rattle.frame.proofs.WriteFacts.{over-next, record-length, line-refused, line-answered, line-length, line-least}
 use Rattle.frame.proofs.writing.write_answer.Statement.{statement}
 use Rattle.frame.proofs.writing.write_answer.Tie as tie
 
 write-record-requires : tie.Need-write-record-requires
-write-record-requires c κs = search needs
+write-record-requires c κs = let s = c .before .before .before in omega (arith, s .pre, line-least (s .args .answer) (s .args .cells .now))
 
 same-length : tie.Need-same-length
 same-length c = search needs
@@ -25,7 +25,11 @@ returns c =
     (sym (ap length e ∙ record-length (a .answer)), w .write-record .ensures ∙ ap (λ (l : List ℕ). over 0 l (a .out .now)) (sym e))
 
 write-cells-requires : tie.Need-write-cells-requires
-write-cells-requires c κs = search needs
+write-cells-requires c κs =
+    let i = c .before in
+    let s = i .before .before .before .before .before .before .before .before in
+    let e : length (lineOf (s .args .answer) (s .args .cells .now)) ≡ 18 + length (s .args .cells .now) * 16 = line-length (s .args .answer) (s .args .cells .now) (i .if1 .left) in
+    omega (arith, s .pre)
 
 same-length-2 : tie.Need-same-length-2
 same-length-2 c = search needs

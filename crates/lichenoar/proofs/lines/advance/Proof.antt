@@ -6,8 +6,9 @@ use Prim.Native.Nat.{ℕ, _-_, _≤_, _<_}
 use native.Mathlib.Nat.{eq-or-lt-of-le}
 use native.Mathlib.Omega.{arith}
 use lib.ListN.{length, take, drop}
-use Rattle.lichenoar.specs.Feed.{mostRoom, Feed, fedOf, feedOf, Within}
-use Rattle.lichenoar.proofs.FeedFacts.{fed-append}
+use Rattle.lichenoar.specs.Feed.{mostRoom, feedOf, Within}
+use Rattle.answering.specs.Feed.{Feed, fedOf}
+use Rattle.answering.proofs.FeedFacts.{fed-append}
 use Rattle.lichenoar.proofs.BufferFacts.{taken-none}
 use Rattle.lichenoar.proofs.FrameFacts.{taken-more}
 use Rattle.lichenoar.proofs.lines.advance.Statement.{statement}

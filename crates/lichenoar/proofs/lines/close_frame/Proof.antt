@@ -7,10 +7,11 @@ use native.Mathlib.Omega.{arith}
 use borrow.Rule.Slice.PartMut.{midOf, putMid}
 use lib.ListN.{length, take, length-set}
 use Rattle.frame.specs.declared.asking.Parsed.{Parsed}
-use Rattle.frame.specs.Over.{over}
+use Rattle.frame.specs.Over.{offered}
 use Rattle.answering.specs.Line.{parsedLine}
-use Rattle.answering.proofs.LineFacts.{parsed-bound}
-use Rattle.lichenoar.specs.Feed.{mostRoom, withLine}
+use Rattle.answering.proofs.LineFacts.{parsed-bound, parsed-roomy}
+use Rattle.lichenoar.specs.Feed.{mostRoom}
+use Rattle.answering.specs.Feed.{withLine}
 use Rattle.lichenoar.proofs.BufferFacts.{Closing, closing, lent-room}
 use borrow.Author.Needs.{needs}
 use Rattle.lichenoar.proofs.lines.close_frame.Statement.{statement}
@@ -29,12 +30,13 @@ part-answer-parsed-end : tie.Need-part-answer-parsed-end
 part-answer-parsed-end c = search needs
 
 answer-parsed-requires : tie.Need-answer-parsed-requires
-answer-parsed-requires c κs = let s = c .before .before .before in lent-room (s .args .out .now) (s .args .filled) (s .pre)
+answer-parsed-requires c κs = search needs
 
+-- the lent rest has room, so that the line is written
 behind :
-    (p : Parsed) (d ys : List ℕ) (f n : ℕ) → f + mostRoom ≤ length d → n ≡ length (parsedLine p) → ys ≡ over 0 (parsedLine p) (midOf f (length d - f) d) →
+    (p : Parsed) (d ys : List ℕ) (f n : ℕ) → f + mostRoom ≤ length d → n ≡ length (parsedLine p) → ys ≡ offered (parsedLine p) (midOf f (length d - f) d) →
     Closing d (parsedLine p) (putMid f (length d - f) d ys) f n
-behind p d ys f n h e g = closing d (parsedLine p) ys f n h (parsed-bound p) e g
+behind p d ys f n h e g = closing d (parsedLine p) ys f n h (parsed-bound p) e (g ∙ parsed-roomy p _ (lent-room d f h))
 
 add-end : tie.Need-add-end
 add-end c =

@@ -7,9 +7,10 @@ use native.Mathlib.Omega.{arith}
 use borrow.Author.Needs.{needs}
 use borrow.Rule.Slice.PartMut.{midOf, putMid}
 use lib.ListN.{length, take, length-set}
-use Rattle.answering.specs.Line.{answerLineOf, sizeInto, bytesInto}
+use Rattle.answering.specs.Line.{answerLineOf, bytesInto}
 use Rattle.answering.proofs.LineFacts.{roomy, line-bound}
-use Rattle.lichenoar.specs.Feed.{mostRoom, closedOf}
+use Rattle.lichenoar.specs.Feed.{mostRoom}
+use Rattle.answering.specs.Feed.{closedOf}
 use Rattle.lichenoar.proofs.BufferFacts.{Closing, closing, lent-room}
 use Rattle.lichenoar.proofs.lines.close_line.Statement.{statement}
 use Rattle.lichenoar.proofs.lines.close_line.Tie as tie
@@ -37,9 +38,9 @@ answer-line-requires c κs = search needs
 
 -- the lent rest has room, so that the line is written
 behind :
-    (d line ys : List ℕ) (f n : ℕ) → f + mostRoom ≤ length d → n ≡ sizeInto (length (midOf f (length d - f) d)) line → ys ≡ bytesInto (midOf f (length d - f) d) line →
+    (d line ys : List ℕ) (f n : ℕ) → f + mostRoom ≤ length d → n ≡ length (answerLineOf line) → ys ≡ bytesInto (midOf f (length d - f) d) line →
     Closing d (answerLineOf line) (putMid f (length d - f) d ys) f n
-behind d line ys f n h e g = let w = roomy (midOf f (length d - f) d) line (lent-room d f h) in closing d (answerLineOf line) ys f n h (line-bound line) (e ∙ w .0) (g ∙ w .1)
+behind d line ys f n h e g = closing d (answerLineOf line) ys f n h (line-bound line) e (g ∙ roomy (midOf f (length d - f) d) line (lent-room d f h))
 
 add-end : tie.Need-add-end
 add-end c =

@@ -6,7 +6,7 @@ use native.Mathlib.Omega.{arith}
 use borrow.Author.Needs.{needs}
 use lib.ListN.{take}
 use Rattle.lichenoar.specs.Feed.{feedOf}
-use Rattle.lichenoar.proofs.FeedFacts.{feed, step-newline, step-other}
+use Rattle.answering.proofs.FeedFacts.{feed, step-newline, step-other}
 use Rattle.lichenoar.proofs.lines.take_byte.Statement.{statement}
 use Rattle.lichenoar.proofs.lines.take_byte.Tie as tie
 

@@ -1,4 +1,9 @@
 -- The claims, and the rows of calls to try that are proved.
+pub mod Determined
+pub mod Routines
+pub mod Complexes
+pub mod Steps
+pub mod LogGammaNumbers
 pub mod Rows
 pub mod Lines
 pub mod Claims

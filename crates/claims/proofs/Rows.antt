@@ -1,4 +1,4 @@
--- The ten rows of docs/SCOPE.md, Calls to try, that are proved, as one claim. A row about an entry point is an equation on the whole outcome, the record and every cell. Assumes nothing.
+-- The ten rows of docs/SCOPE.md, Calls to try, that are proved, as one claim. Where a row asks an entry point, the record and all the cells are given. Assumes nothing.
 use mathlib.Core.Path.{_≡_, refl, ap, _∙_}
 use mathlib.Core.Bool.{Bool, true, false}
 use mathlib.Core.List.{[], _∷_}

@@ -1,31 +1,112 @@
-#!/usr/bin/env python3
-"""ask.py K|I ORDER N RE [IM] [--scaled]: writes an asking frame for the program. Numbers are decimal; an order or a part may also be given by its 16 digits, as bits:3FF0000000000000.
+"""What ./ask does: writes an asking frame from words, runs ./run on it, and shows the answer."""
+import os
+import re
+import subprocess
 
-    tools/frames/ask.py K 0.25 2 1.5 -0.75 --scaled | ./run | tools/frames/show.py 0.25
+from frame import KINDS, Wrong, decimal, ended, framed, lost, number, put, say, value_of, visible
+from show import known, shown
+
+RUN = os.path.join(os.path.dirname(os.path.abspath(__file__)), "..", "..", "run")
+USAGE = """usage: ./ask K|I ORDER N RE [IM] [--scaled] [--frame]
+Asks for N consecutive orders from ORDER on, at RE + IM i, and shows the answer as a table, or the refusal with what to do about it.
+  K or I     which function
+  ORDER      from 0 to 1000
+  N          how many orders: 1 to 512
+  RE, IM     the argument: RE from 0 to 32768, IM from -32768 to 32768 and 0 where it is left out
+  --scaled   K times e^z, I times e^-RE
+  --frame    writes the asking frame alone, for ./run
+A number is decimal, as -0.75 or 1e-3, or the 16 hexadecimal digits of an f64, as bits:3FD0000000000000.
+Status: 0 answered, 1 refused or something failed, 2 the words cannot be taken.
 """
-import struct
-import sys
-
-from frame import asking
+FIELDS = ("the kind", "the order", "the number of orders", "the real part", "the imaginary part")
+OPTIONS = ("--scaled", "--frame", "--help", "-h")
 
 
-def number(word):
-    if word.startswith("bits:") and len(word) == 21:
-        return struct.unpack(">d", bytes.fromhex(word[5:]))[0]
-    return float(word)
+def counted(field, word):
+    if not re.fullmatch(r"[+-]?[0-9]+", word):
+        raise Wrong(f"{field}: {visible(word)} is no whole number; write 1 to 512")
+    if len(word) > 9 or not 0 <= int(word) <= 65535:
+        raise Wrong(f"{field}: {visible(word)} does not fit into a frame; write 1 to 512")
+    return int(word)
+
+
+def asked(words):
+    """The fields of what is asked: kind, scaled, count, and the bits of order, re and im; and whether the frame alone is wanted."""
+    options = [word for word in words if word in OPTIONS]
+    words = [word for word in words if word not in OPTIONS]
+    for word in words:
+        if re.match(r"--|-[A-Za-z]", word) and not re.match(r"-(inf|nan)$", word):
+            raise Wrong(f"{visible(word)} is no word of ask; see --help")
+    if len(words) < 4:
+        raise Wrong(f"{', '.join(FIELDS[len(words):4])}: missing; see --help")
+    if len(words) > 5:
+        raise Wrong(f"{visible(words[5])}: one word too many; see --help")
+    kind = words[0]
+    if kind not in KINDS:
+        raise Wrong(f"{FIELDS[0]}: {visible(kind)} is none; write K or I")
+    order = number(FIELDS[1], words[1])
+    count = counted(FIELDS[2], words[2])
+    parts = [number(field, word) for field, word in zip(FIELDS[3:], words[3:])]
+    return (kind, "--scaled" in options, count, order, *parts, *([0] if len(parts) == 1 else [])), "--frame" in options
+
+
+def heading(kind, scaled, _count, _order, re_part, im_part):
+    factor = {"K": "e^z", "I": "e^-re"}[kind]
+    sign, size = ("-" if im_part >> 63 else "+"), value_of(im_part & ~(1 << 63))
+    return f"{kind}{f' times {factor}' if scaled else ''} at z = {decimal(value_of(re_part))} {sign} {decimal(size)} i"
+
+
+def answer_of(frame):
+    """The answer line of ./run to one frame. Wrong where there is none."""
+    try:
+        done = subprocess.run([RUN], input=frame.encode("ascii") + b"\n", stdout=subprocess.PIPE, check=False)
+    except OSError as wrong:
+        raise Wrong(f"./run cannot be started: {wrong.strerror or wrong}") from None
+    lines = done.stdout.split(b"\n")
+    if len(lines) != 2 or lines[1]:
+        raise Wrong(f"./run gave {len(lines) - 1} lines in place of one, and ended with {done.returncode}")
+    return lines[0], done.returncode
+
+
+def table(fields):
+    """What is printed for an answer, and the status."""
+    line, ran = answer_of(framed(*fields))
+    meanings, status = known("ask")
+    try:
+        text = shown(line, value_of(fields[3]), meanings)
+    except Wrong as wrong:
+        raise Wrong(f"what ./run gave is no answer line: {wrong}: {visible(line.decode('ascii', 'backslashreplace'))}") from None
+    if line[:2] != b"00":
+        return text, 1
+    if ran:
+        say(f"ask: ./run answered, and ended with {ran}: something failed")
+    return text, 1 if ran or status else 0
 
 
 def main(words):
-    scaled = "--scaled" in words
-    words = [w for w in words if w != "--scaled"]
-    if len(words) not in (4, 5):
-        sys.exit(__doc__)
     try:
-        line = asking(words[0], scaled, number(words[1]), int(words[2]), number(words[3]), number(words[4]) if len(words) == 5 else 0.0)
-    except (ValueError, struct.error) as wrong:
-        sys.exit(f"ask.py: {wrong}")
-    print(line)
+        if "--help" in words or "-h" in words:
+            text, status = [USAGE[:-1]], 0
+        else:
+            try:
+                fields, frame_alone = asked(words)
+            except Wrong as wrong:
+                say(f"ask: {wrong}")
+                return 2
+            if frame_alone:
+                text, status = [framed(*fields)], 0
+            else:
+                text, status = table(fields)
+                text = [heading(*fields)] + text
+    except Wrong as wrong:
+        say(f"ask: {wrong}")
+        return 1
+    try:
+        put("\n".join(text) + "\n")
+    except OSError as wrong:
+        return lost("ask", wrong)
+    return status
 
 
 if __name__ == "__main__":
-    main(sys.argv[1:])
+    ended("ask", main)

@@ -5,6 +5,8 @@ import subprocess
 import sys
 
 PROGRAM = sys.argv[1:]
+if not PROGRAM:
+    sys.exit(__doc__)
 DIGITS = b'0123456789ABCDEF'
 ASKED = b'02000002' + b'0' * 48
 ANSWERED = b'000000000000000000' + b'3FF0000000000000' + b'0' * 48

@@ -1,17 +1,44 @@
 #!/usr/bin/env bash
-# Writes target/host/lichenoar, the frame program for the processor of this machine: on x86-64 target/bin/lichenoar itself, elsewhere the same LLVM module,
-# compiled for this processor (tools/host/module.sh) and linked with this machine's C library. For times; the emulator runs target/bin/lichenoar too.
+# program.sh [NAME]: writes target/host/NAME, a program (the frame program where none is named) for the processor of this machine, unless it is newer than its sources. On x86-64
+# it is target/bin/NAME itself. Elsewhere it is the same LLVM module, compiled for this processor (tools/host/module.sh) and linked with this machine's C library. `rt try` makes
+# the module with no second proof; its code for x86-64 must be that of the proved program, function by function (tools/host/same_code.py), and else NAME is proved again for it.
 set -eu
 cd "$(dirname "$0")/../.."
+said_by=program.sh
+name=${1:-lichenoar}
 . tools/host/module.sh
-if [ "$(uname -m)" = x86_64 ]; then
-    quiet rt check lichenoar
-    cp target/bin/lichenoar target/host/lichenoar
-    exit 0
+made() { current "target/host/$name" "$name" tools/host/program.sh tools/host/module.sh; }
+
+# tried: the module of `rt try`, in a repository of links where the program has no input
+tried() {
+    local crate try=target/host/try
+    rm -rf "$try"
+    mkdir -p "$try/crates/$name"
+    cp crates.txt "$try/crates.txt"
+    for crate in "${crates_found[@]}"; do [ "$crate" = "$name" ] || ln -s "$PWD/crates/$crate" "$try/crates/$crate"; done
+    ln -s "$PWD/crates/$name/src" "$try/crates/$name/src"
+    (cd "$try" && RATTLE_HOME=$shadow rt try "$name") > target/host/log 2>&1 || return
+    python3 tools/host/same_code.py "$object" "target/obj/$name.o" >> target/host/log 2>&1
+}
+
+made && exit 0
+date=target/dates/host-$name
+: > "$date"
+program_built "$name"
+alone
+if made; then exit 0; fi
+if [ "$kit_machine" = x86_64 ]; then
+    cp "target/bin/$name" "target/host/$name"
+else
+    can_prove "$name"
+    crates_of "$name"
+    keep_module
+    if ! tried; then
+        say "rt try did not give the code of the proved program (target/host/log), so $name is proved again and its module kept"
+        rm -f "target/stamp/$name"
+        RATTLE_HOME=$shadow proving "$name" check "$name"
+    fi
+    for_host "target/host/$name.o"
+    gcc -o "target/host/$name" "target/host/$name.o" -lm
 fi
-keep_module
-# proved and compiled anew, so that its module passes by
-rm -f target/stamp/lichenoar
-quiet env RATTLE_HOME="$shadow" rt check lichenoar
-for_host target/host/lichenoar.o
-gcc -o target/host/lichenoar target/host/lichenoar.o -lm
+touch -r "$date" "target/host/$name"

@@ -1,4 +1,5 @@
-/* K of orders 0 and 1 at 1 + 0.5i, with the counts of the steps taken; then a call that is refused. */
+/* K of orders 0 and 1 at 1 + 0.5i, with the counts of the steps taken; an I of which the low orders are unfinished; then a call that is refused.
+   C99, and C++ too. */
 #include "lichenoar.h"
 #include <stdio.h>
 
@@ -11,12 +12,27 @@ static void ask(double v, double re, double im) {
         return;
     }
     for (int i = 0; i < 2; i++) printf("K(%g) at %g%+gi = %.17g%+.17gi\n", v + i, re, im, out[2 * i], out[2 * i + 1]);
-    printf("zeros %d, longest sum %u, rungs %u, backward steps %u\n", (int)answer.zeros, (unsigned)answer.longest_sum, (unsigned)answer.rungs, (unsigned)answer.backward);
+    printf("zeros %d, longest sum %u, rungs %u, backward steps %u\n", (int)answer.zeros, (unsigned)answer.longest_sum, (unsigned)answer.rungs,
+           (unsigned)answer.backward);
+}
+
+/* Where the count is negative the orders below the stop are not-a-numbers: x != x tells them. */
+static void ask_i(double v, double re) {
+    double out[10];
+    lichenoar_answer answer;
+    int unfinished = 0;
+    lichenoar_i(&answer, 0, v, re, 0, out, 10);
+    if (answer.number != 0) return;
+    while (unfinished < 5 && out[2 * unfinished] != out[2 * unfinished]) unfinished++;
+    printf("I(%g) to I(%g) at %g: zeros %d, the first %d orders unfinished\n", v, v + 4, re, (int)answer.zeros, unfinished);
 }
 
 int main(void) {
+    printf("lichenoar %s\n", LICHENOAR_VERSION);
     ask(0, 1, 0.5);
     ask(0.25, 3, -4);
+    ask_i(0.5, 3);
+    ask_i(368, 38.5);
     ask(0, 0, 0); /* K of zero */
     return 0;
 }

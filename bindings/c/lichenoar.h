@@ -1,75 +1,103 @@
-/* Lichenoar from C11 and C++: the modified Bessel functions K and I of a complex argument, log-gamma, and the twelve real routines they stand on.
+/* Lichenoar from C (C99 and later) and C++: the modified Bessel functions K and I of a complex argument, log-gamma, and the twelve real routines
+   that they stand on.
 
    Link libcapi.a and -lm. No function allocates, keeps anything between calls, reads a file or sets errno; each may be called from any thread.
    Every result is the same in every bit on every processor. The fixed not-a-number is the pattern 7FF8000000000000.
 
    A call of K or I asks for n consecutive orders v, v+1, .., v+n-1 at z = re + im*i and lends 2n cells: the real part of an entry, then its
-   imaginary part. Domain: v from 0 to 1000, n from 1 to 512, re from 0 to 32768, im from -32768 to 32768. What cannot be answered is refused by a number:
+   imaginary part. Domain: v from 0 to 1000, n from 1 to 512, re from 0 to 32768, im from -32768 to 32768. What cannot be answered is refused by a
+   number, and the first that applies is given: 1 to 8 in their order, of log-gamma 2, then 10, then 8. A refusal writes the fixed not-a-number into
+   every cell that was lent, and its counts are 0. The numbers, what each says, and what to do about it (9 is the frame program's, and never given here):
 
      0   answered
-     1   the length is odd, 0 or above 1024
-     2   an argument is not finite
-     3   v, re or im is outside the domain
-     4   K of 0
-     5   I, and z is too large for its power series: |z|*|z|/4 is above v + n
-     6   K: the search for the start of the backward steps found none (no input is known that gets this)
-     7   K, unscaled, re above 664.87: no two neighbouring orders on scale were found on the way up
-     8   a finished entry is not finite
-     9   a malformed line (of the frame program; never given here)
-     10  log-gamma of 0 or less
-
-   The first that applies is given. A refusal writes the fixed not-a-number into every cell that was lent, and its counts are 0. */
+     1   the number of cells is odd, 0 or above 1,024; ask for 1 to 512 orders, and lend two cells for each
+     2   an argument is infinite or not a number; look at where the argument came from; no setting answers it
+     3   the order is not from 0 to 1,000, the real part is below 0, or a part is above 32,768 in magnitude; ask within these limits
+     4   K of 0 is infinite; ask at an argument other than 0
+     5   the argument is too large for the power series of I; ask for modulus^2/4 - order orders or more and use the first rows; it helps to a modulus
+         of 37
+     6   the search for the start of the backward steps found none; no input is known that gets it; please report the frame
+     7   the climb out of underflow found no two neighbouring orders on scale; ask scaled
+     8   a finished value is not finite; ask plain if it was asked scaled; else for fewer or lower orders, or farther from 0; for log-gamma below 2.55e305
+     9   the line is no frame; write 56 upper-case hexadecimal digits, kind 01 or 02, scaling 00 or 01; take carriage returns away
+     10  log-gamma of 0 or less; ask above 0
+*/
 #ifndef LICHENOAR_H
 #define LICHENOAR_H
 
 #include <stddef.h>
 #include <stdint.h>
 
+/* The version that this header came with, as words and as numbers. */
+#define LICHENOAR_VERSION "0.2.0"
+#define LICHENOAR_VERSION_MAJOR 0
+#define LICHENOAR_VERSION_MINOR 2
+#define LICHENOAR_VERSION_PATCH 0
+
 #ifdef __cplusplus
 extern "C" {
 #endif
 
-/* What a call of K or I returns beside its cells: 20 bytes. */
+/* What a call of K or I returns beside its cells: 20 bytes. Of a refusal every field but the number is 0. */
 typedef struct lichenoar_answer {
-    uint32_t number;      /* 0, or the refusal's number */
-    int32_t zeros;        /* entries set to 0 because they underflow; negative for I where the steps stopped before the lowest order */
-    uint32_t longest_sum; /* terms of the longest sum: at most 18 for K, 19 for I */
-    uint32_t rungs;       /* steps of recurrence from order to order */
-    uint32_t backward;    /* backward steps of K's seeds: at most 256 */
+    uint32_t number;      /* 0 for an answer, else the refusal's number */
+    int32_t zeros;        /* Entries that underflow and were set to 0; entries at which the function itself is 0 are not counted. K: from 0 to n, and they
+                             are the first. I: where it is negative, an entry set to 0 stopped the visit, which goes down from the highest order. Its
+                             magnitude is then the number of zeros set; the lowest of these is where the visit stopped; the entries above it are
+                             finished, and those below it, if there are any, hold the fixed not-a-number in both cells. */
+    uint32_t longest_sum; /* terms of the longest sum that was taken: at most 18 for K, 19 for I; 0 where none was */
+    uint32_t rungs;       /* steps of recurrence from one order to the next. K: r + n - 2, r being v rounded, or 0 for r = 0 and n = 1. I: downward steps */
+    uint32_t backward;    /* backward steps of K's seeds: at most 256. I: always 0 */
 } lichenoar_answer;
 
-/* What log-gamma returns: 16 bytes. The value is the fixed not-a-number unless the number is 0. */
+/* What log-gamma returns: 16 bytes. */
 typedef struct lichenoar_log_gamma_answer {
-    double value;
-    uint32_t number;
+    double value;    /* the fixed not-a-number unless the number is 0 */
+    uint32_t number; /* 0 for an answer, else the refusal's number: 2, 8 or 10 */
 } lichenoar_log_gamma_answer;
 
-/* K(v), .., K(v+n-1) at re + im*i, where length = 2n. scaled: 0 for the values themselves, any other for the values times e^z.
-   Entries that underflow are 0 and come first; `zeros` is how many. The record is written to *answer, and `answer` is returned.
-   `out` must lend `length` cells; it may be any pointer, a null one too, where the length is 0. A length that is refused is safe. */
+/* K(v), .., K(v+n-1) at re + im*i, where length = 2n: the modified Bessel function of the second kind. scaled: 0 for the values themselves, any other
+   for the values times e^z. Unscaled values of a large re underflow: these entries are 0 and come first; `zeros` is how many.
+   The record is written to *answer, and `answer` is returned. `out` must lend `length` cells; it may be any pointer, a null one too, where the length
+   is 0. A length that is refused is safe: each of the cells lent is written, and no other. Refused by 1, 2, 3, 4, 6, 7 or 8. */
 lichenoar_answer *lichenoar_k(lichenoar_answer *answer, uint8_t scaled, double v, double re, double im, double *out, size_t length);
 
-/* I(v), .., I(v+n-1) at re + im*i, as for K. scaled: 0 for the values themselves, any other for the values times e^-re.
-   Where `zeros` is negative the steps stopped at an entry that is 0: its magnitude is the number of zeros set, the entries above are finished, and
-   those below it hold the fixed not-a-number. */
+/* I(v), .., I(v+n-1) at re + im*i, as for K: the modified Bessel function of the first kind, by its power series, which is taken for |z|*|z|/4 up to
+   v + n. scaled: 0 for the values themselves, any other for the values times e^-re. High orders underflow first. Where `zeros` is negative, look at the
+   cells before using the low orders: those below the stop hold the fixed not-a-number. Refused by 1, 2, 3, 5 or 8. */
 lichenoar_answer *lichenoar_i(lichenoar_answer *answer, uint8_t scaled, double v, double re, double im, double *out, size_t length);
 
-/* The logarithm of the gamma function of x. Refused: 2 where x is not finite, 10 where it is 0 or less, 8 where the value overflows (from about 2.56e305). */
+/* The logarithm of the gamma function of x. Refused by 2 where x is not finite, by 10 where it is 0 or less, by 8 where the value is above the largest
+   double (from about 2.56e305). */
 lichenoar_log_gamma_answer lichenoar_log_gamma(double x);
 
-/* The real routines. Each is defined for every argument, and a not-a-number comes back as the fixed one. */
-double lichenoar_sqrt(double x);              /* the nearest double, ties to even */
-double lichenoar_hypot(double x, double y);   /* the root of x*x + y*y */
+/* The twelve real routines. Each is defined for every argument, zeros, infinities and not-a-numbers included; a not-a-number gives the fixed one, but
+   for hypot beside an infinity. Each is within 2 units in the last place on a published grid; docs/ACCURACY.md of the repository has the figures. */
+
+/* The square root: the nearest double, ties to even. The fixed not-a-number below 0; each zero is its own root. */
+double lichenoar_sqrt(double x);
+/* The root of x*x + y*y, with no overflow on the way. Infinity where a part is infinite, whatever the other is. */
+double lichenoar_hypot(double x, double y);
+/* e to the power x: infinity at infinity, 0 at minus infinity. */
 double lichenoar_exp(double x);
-double lichenoar_ln(double x);                /* minus infinity for either zero */
+/* The natural logarithm: minus infinity at either zero, the fixed not-a-number below. */
+double lichenoar_ln(double x);
+/* The sine of x radians; of an infinity the fixed not-a-number. */
 double lichenoar_sin(double x);
+/* The cosine of x radians; of an infinity the fixed not-a-number. */
 double lichenoar_cos(double x);
-double lichenoar_angle(double y, double x);   /* the angle of the point (x, y): y comes first, as in atan2 */
+/* The angle of the point (x, y) in radians, from -pi to pi: y comes first, as in atan2, also where both are zero or both infinite. */
+double lichenoar_angle(double y, double x);
+/* The hyperbolic sine: an infinity is its own. */
 double lichenoar_sinh(double x);
+/* The hyperbolic cosine: infinity at either infinity. */
 double lichenoar_cosh(double x);
-double lichenoar_sin_pi(double x);            /* sin(pi*x): exactly 0 at every whole x */
-double lichenoar_cos_pi(double x);            /* cos(pi*x): exactly 0 at -0.5 and 0.5 */
-double lichenoar_round(double x);             /* the nearest whole number, half away from zero */
+/* sin(pi*x): exactly 0 at every whole x; of an infinity the fixed not-a-number. */
+double lichenoar_sin_pi(double x);
+/* cos(pi*x): exactly 0 at -0.5 and 0.5; of an infinity the fixed not-a-number. */
+double lichenoar_cos_pi(double x);
+/* The nearest whole number, half away from zero; exact. An infinity is its own. */
+double lichenoar_round(double x);
 
 #ifdef __cplusplus
 }

@@ -1,5 +1,6 @@
-/* The C interface against known answers. test KNOWN: layouts; every line of KNOWN (bindings/known.txt), bit for bit, in cells full of rubbish with a guard on each
-   side; every length to 1,100; the real routines. The last line says what was tried; a failure names its line and the program ends with 1. */
+/* The C interface against known answers. test KNOWN: layouts; every line of KNOWN (bindings/known.txt), bit for bit, in cells full of rubbish with a
+   guard on each side; every length to 1,100; negative counts of I; the real routines as the header has them; the version. The last line says whether
+   all was as stated; a failure names its line and the program ends with 1. */
 #include "lichenoar.h"
 #include <stddef.h>
 #include <stdint.h>
@@ -62,7 +63,8 @@ static unsigned bessel(const char *text) {
     unsigned scaled, length, number, sum, rungs, backward;
     unsigned long long v, re, im, cell;
     int zeros, used = 0;
-    CHECK(sscanf(text, "%c %u %llx %llx %llx %u %u %d %u %u %u%n", &kind, &scaled, &v, &re, &im, &length, &number, &zeros, &sum, &rungs, &backward, &used) == 11);
+    CHECK(sscanf(text, "%c %u %llx %llx %llx %u %u %d %u %u %u%n", &kind, &scaled, &v, &re, &im, &length, &number, &zeros, &sum, &rungs, &backward,
+                 &used) == 11);
     lichenoar_answer a = guarded(kind == 'k' ? lichenoar_k : lichenoar_i, (uint8_t)scaled, value(v), value(re), value(im), length);
     CHECK(a.number == number && a.zeros == zeros && a.longest_sum == sum && a.rungs == rungs && a.backward == backward);
     if (number) all_fixed(length);
@@ -114,7 +116,43 @@ static void lengths(void) {
     }
 }
 
+/* Negative counts, held to the header's words: the lowest zero is where the visit stopped, finite entries above it, the fixed not-a-number below. */
+static void stops(void) {
+    int negative = 0, below = 0;
+    for (int v = 340; v <= 1000; v += 4) {
+        for (size_t n = 1; n <= 7; n++) {
+            /* the moduli m with v <= m*m/4 <= v + n, twenty of them */
+            for (int j = 0; j <= 20; j++) {
+                double m = 2 * lichenoar_sqrt(v + (double)n * j / 20) * (1 - 1e-9);
+                lichenoar_answer a = guarded(lichenoar_i, j % 2 == 0, v, m * 0.8, m * -0.6, 2 * n);
+                size_t stop = 0, zeros = 0;
+                CHECK(a.number == 0 && a.backward == 0);
+                while (stop < n && bits(room[2 * stop + 1]) == FIXED && bits(room[2 * stop + 2]) == FIXED) stop++;
+                for (size_t i = stop; i < n; i++) {
+                    CHECK(room[2 * i + 1] - room[2 * i + 1] == 0 && room[2 * i + 2] - room[2 * i + 2] == 0);
+                    zeros += room[2 * i + 1] == 0 && room[2 * i + 2] == 0;
+                }
+                CHECK((size_t)(a.zeros < 0 ? -a.zeros : a.zeros) == zeros);
+                if (a.zeros < 0) CHECK(stop < n && room[2 * stop + 1] == 0 && room[2 * stop + 2] == 0);
+                if (a.zeros >= 0) CHECK(stop == 0);
+                negative += a.zeros < 0;
+                below += stop > 0;
+            }
+        }
+    }
+    CHECK(negative > 1000 && below > 1000 && below < negative);
+    printf("negative counts of I: %d, of them with orders below the stop: %d\n", negative, below);
+}
+
+#define WORDS(x) #x
+#define SHOWN(x) WORDS(x)
+
+static void version(void) {
+    CHECK(strcmp(LICHENOAR_VERSION, SHOWN(LICHENOAR_VERSION_MAJOR) "." SHOWN(LICHENOAR_VERSION_MINOR) "." SHOWN(LICHENOAR_VERSION_PATCH)) == 0);
+}
+
 static void routines(void) {
+    double up = value(0x7FF0000000000000u), none = value(FIXED);
     CHECK(lichenoar_sqrt(4) == 2 && bits(lichenoar_sqrt(value(1))) == 0x1E60000000000000u);
     CHECK(lichenoar_hypot(3, 4) == 5 && lichenoar_exp(0) == 1 && lichenoar_ln(1) == 0);
     CHECK(lichenoar_sin(0) == 0 && lichenoar_cos(0) == 1 && lichenoar_sinh(0) == 0 && lichenoar_cosh(0) == 1);
@@ -122,6 +160,13 @@ static void routines(void) {
     CHECK(lichenoar_round(2.5) == 3 && lichenoar_round(-2.5) == -3);
     CHECK(bits(lichenoar_angle(1, 0)) == 0x3FF921FB54442D18u && lichenoar_angle(0, 1) == 0);
     CHECK(bits(lichenoar_sqrt(-1)) == FIXED && bits(lichenoar_exp(value(0xFFF8000000000001u))) == FIXED);
+    CHECK(bits(lichenoar_sqrt(-0.0)) == bits(-0.0) && lichenoar_hypot(-up, none) == up && lichenoar_hypot(none, up) == up);
+    CHECK(bits(lichenoar_hypot(none, 1)) == FIXED && lichenoar_exp(up) == up && lichenoar_exp(-up) == 0);
+    CHECK(lichenoar_ln(0) == -up && lichenoar_ln(-0.0) == -up && bits(lichenoar_ln(-1)) == FIXED && lichenoar_ln(up) == up);
+    CHECK(bits(lichenoar_sin(up)) == FIXED && bits(lichenoar_cos(-up)) == FIXED);
+    CHECK(bits(lichenoar_sin_pi(up)) == FIXED && bits(lichenoar_cos_pi(-up)) == FIXED && lichenoar_cos_pi(-0.5) == 0);
+    CHECK(lichenoar_sinh(-up) == -up && lichenoar_cosh(-up) == up && lichenoar_round(-up) == -up);
+    CHECK(bits(lichenoar_angle(0.0, -0.0)) == 0x400921FB54442D18u && bits(lichenoar_angle(-0.0, -0.0)) == 0xC00921FB54442D18u);
 }
 
 int main(int argc, char **argv) {
@@ -134,7 +179,9 @@ int main(int argc, char **argv) {
     fclose(f);
     line = 0;
     lengths();
+    stops();
     routines();
+    version();
     printf("C interface: %s\n", failed ? "DIFFERENT" : "as stated");
     return failed;
 }

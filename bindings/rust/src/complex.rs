@@ -2,13 +2,20 @@ use core::fmt;
 
 /// A complex number: two `f64` one after the other, the real part first.
 ///
+/// It comes from a pair, an array or a real number, and goes back into a pair or an array; with the feature `num-complex` (README) also from and
+/// into `num_complex::Complex<f64>`. Every bit is kept.
+///
 /// ```
 /// use lichenoar::Complex;
 ///
-/// let z = Complex::from((1.0, 0.5));
-/// assert_eq!(z, Complex::new(1.0, 0.5));
-/// let (re, im): (f64, f64) = z.into();
+/// let z = Complex::new(1.0, 0.5);
+/// assert_eq!(z, (1.0, 0.5).into());
+/// assert_eq!(z, Complex::from([1.0, 0.5]));
+/// assert_eq!(Complex::new(2.0, 0.0), 2.0.into());
+///
+/// let (re, im) = z.into();
 /// assert_eq!((re, im), (1.0, 0.5));
+/// assert_eq!(<[f64; 2]>::from(z), [1.0, 0.5]);
 /// ```
 #[repr(C)]
 #[derive(Debug, Clone, Copy, PartialEq, Default)]
@@ -42,9 +49,46 @@ impl From<Complex> for (f64, f64) {
     }
 }
 
+impl From<[f64; 2]> for Complex {
+    fn from([re, im]: [f64; 2]) -> Self {
+        Complex { re, im }
+    }
+}
+
+impl From<Complex> for [f64; 2] {
+    fn from(z: Complex) -> Self {
+        [z.re, z.im]
+    }
+}
+
 impl From<f64> for Complex {
     fn from(re: f64) -> Self {
         Complex { re, im: 0.0 }
+    }
+}
+
+/// With the feature `num-complex`, and the other way round too.
+///
+/// ```
+/// use lichenoar::{k, Scaling};
+/// use num_complex::Complex;
+///
+/// let z = Complex::new(1.5, -0.75);
+/// let value: Complex<f64> = k(0.25, z.into(), Scaling::Scaled)?.into();
+/// assert_eq!(value * 2.0, Complex::new(1.8131839932916272, 0.3954283850892836));
+/// # Ok::<(), lichenoar::Refusal>(())
+/// ```
+#[cfg(feature = "num-complex")]
+impl From<num_complex::Complex<f64>> for Complex {
+    fn from(z: num_complex::Complex<f64>) -> Self {
+        Complex { re: z.re, im: z.im }
+    }
+}
+
+#[cfg(feature = "num-complex")]
+impl From<Complex> for num_complex::Complex<f64> {
+    fn from(z: Complex) -> Self {
+        num_complex::Complex { re: z.re, im: z.im }
     }
 }
 

@@ -3,25 +3,52 @@ use core::fmt;
 
 /// Why a call has no answer. Where several apply, the one with the lowest number is given; log-gamma asks for 2, then 10, then 8.
 ///
-/// ```
-/// use lichenoar::{k_into, Complex, Refusal, Scaling};
+/// [`words`](Refusal::words) says what was met and [`remedy`](Refusal::remedy) what to do about it, as docs/refusals.txt of the repository has them and the
+/// C header and the shift's scripts say them.
 ///
-/// let mut out = [Complex::ZERO; 2];
-/// let refusal = k_into(Complex::ZERO, 0.0, Scaling::Unscaled, &mut out).unwrap_err();
+/// ```
+/// use lichenoar::{k, Complex, Refusal, Scaling};
+///
+/// let refusal = k(0.0, Complex::ZERO, Scaling::Unscaled).unwrap_err();
 /// assert_eq!(refusal, Refusal::Zero);
 /// assert_eq!(refusal.number(), 4);
-/// assert_eq!(refusal.to_string(), "refusal 4: K of zero");
+/// assert_eq!(refusal.words(), "K of 0 is infinite");
+/// assert_eq!(refusal.remedy(), "ask at an argument other than 0");
+/// assert_eq!(refusal.to_string(), "refusal 4: K of 0 is infinite");
+/// ```
+///
+/// It is an error as others are, and small: it can be copied, compared, and be the key of a map.
+///
+/// ```
+/// use lichenoar::{log_gamma, Refusal};
+/// use std::collections::HashMap;
+///
+/// fn sum(xs: &[f64]) -> Result<f64, Box<dyn std::error::Error>> {
+///     let mut sum = 0.0;
+///     for &x in xs {
+///         sum += log_gamma(x)?;
+///     }
+///     Ok(sum)
+/// }
+/// assert_eq!(sum(&[1.0, 2.0]).unwrap(), 0.0);
+/// assert_eq!(sum(&[1.0, -2.0]).unwrap_err().to_string(), "refusal 10: log-gamma of 0 or less");
+///
+/// let mut met: HashMap<Refusal, u32> = HashMap::new();
+/// for x in [0.0, -1.0, f64::NAN] {
+///     *met.entry(log_gamma(x).unwrap_err()).or_default() += 1;
+/// }
+/// assert_eq!((met[&Refusal::NotPositive], met[&Refusal::NotFinite]), (2, 1));
 /// ```
 #[derive(Debug, Clone, Copy, PartialEq, Eq, Hash)]
 #[non_exhaustive]
 pub enum Refusal {
-    /// 1: the slice holds no entry, or more than 512.
+    /// 1: the slice holds no entry, or more than 512. Never of a single value.
     Length,
     /// 2: an argument is infinite or not a number.
     NotFinite,
     /// 3: the order is not from 0 to 1,000, the real part is below 0, or a part is above 32,768 in magnitude.
     Domain,
-    /// 4: K of zero.
+    /// 4: K of 0.
     Zero,
     /// 5: I, and `|z|²/4` is above the order plus the number of entries: too large for the power series.
     Series,
@@ -31,7 +58,7 @@ pub enum Refusal {
     Climb,
     /// 8: a finished value is not finite.
     Overflow,
-    /// 9: a malformed line. The frame program gives it, never a function of this crate.
+    /// 9: a line that is no frame. The frame program gives it, never a function of this crate.
     Malformed,
     /// 10: log-gamma of 0 or less.
     NotPositive,
@@ -41,6 +68,14 @@ pub enum Refusal {
 
 impl Refusal {
     /// The refusal with this number; none for 0, which is an answer's.
+    ///
+    /// ```
+    /// use lichenoar::Refusal;
+    ///
+    /// assert_eq!(Refusal::from_number(5), Some(Refusal::Series));
+    /// assert_eq!(Refusal::from_number(0), None);
+    /// assert_eq!(Refusal::from_number(200).unwrap().to_string(), "refusal 200: not known here");
+    /// ```
     #[must_use]
     pub const fn from_number(number: u32) -> Option<Refusal> {
         Some(match number {
@@ -77,19 +112,49 @@ impl Refusal {
         }
     }
 
-    const fn words(self) -> &'static str {
+    /// What was met, in words. `Display` puts the number before them.
+    #[must_use]
+    pub const fn words(self) -> &'static str {
         match self {
-            Refusal::Length => "the slice must hold 1 to 512 entries",
-            Refusal::NotFinite => "an argument is not finite",
-            Refusal::Domain => "the order, the sign or the size of an argument is outside the domain",
-            Refusal::Zero => "K of zero",
-            Refusal::Series => "I, and the argument is too large for the power series",
-            Refusal::Start => "K: no start for the backward steps",
-            Refusal::Climb => "K: no two neighbouring orders on scale",
+            Refusal::Length => "the number of cells is odd, 0 or above 1,024",
+            Refusal::NotFinite => "an argument is infinite or not a number",
+            Refusal::Domain => "the order is not from 0 to 1,000, the real part is below 0, or a part is above 32,768 in magnitude",
+            Refusal::Zero => "K of 0 is infinite",
+            Refusal::Series => "the argument is too large for the power series of I",
+            Refusal::Start => "the search for the start of the backward steps found none",
+            Refusal::Climb => "the climb out of underflow found no two neighbouring orders on scale",
             Refusal::Overflow => "a finished value is not finite",
-            Refusal::Malformed => "a malformed line",
+            Refusal::Malformed => "the line is no frame",
             Refusal::NotPositive => "log-gamma of 0 or less",
-            Refusal::Other(_) => "a reason that this version does not know",
+            Refusal::Other(_) => "not known here",
+        }
+    }
+
+    /// What to do about it, in words.
+    ///
+    /// ```
+    /// use lichenoar::{k_into, Complex, Scaling};
+    ///
+    /// let z = Complex::from(800.0);
+    /// let mut out = [Complex::ZERO; 2];
+    /// let refusal = k_into(z, 1.0, Scaling::Unscaled, &mut out).unwrap_err();
+    /// assert_eq!(refusal.remedy(), "ask scaled");
+    /// assert!(k_into(z, 1.0, Scaling::Scaled, &mut out).is_ok());
+    /// ```
+    #[must_use]
+    pub const fn remedy(self) -> &'static str {
+        match self {
+            Refusal::Length => "ask for 1 to 512 orders, and lend two cells for each",
+            Refusal::NotFinite => "look at where the argument came from; no setting answers it",
+            Refusal::Domain => "ask within these limits",
+            Refusal::Zero => "ask at an argument other than 0",
+            Refusal::Series => "ask for modulus^2/4 - order orders or more and use the first rows; it helps to a modulus of 37",
+            Refusal::Start => "no input is known that gets it; please report the frame",
+            Refusal::Climb => "ask scaled",
+            Refusal::Overflow => "ask plain if it was asked scaled; else for fewer or lower orders, or farther from 0; for log-gamma below 2.55e305",
+            Refusal::Malformed => "write 56 upper-case hexadecimal digits, kind 01 or 02, scaling 00 or 01; take carriage returns away",
+            Refusal::NotPositive => "ask above 0",
+            Refusal::Other(_) => "look it up in the list of the archive's version",
         }
     }
 }

@@ -4,16 +4,22 @@ use lichenoar::elementary::{angle, cos, cos_pi, cosh, exp, hypot, ln, round, sin
 use lichenoar::Scaling::{Scaled, Unscaled};
 use lichenoar::{i_into, k_into, log_gamma, Answer, Complex, Refusal};
 
+type Counts = (i32, u32, u32, u32);
+
 const RUBBISH: Complex = Complex::new(123.0, -456.0);
 
-fn answer(zeros: i32, longest_sum: u32, rungs: u32, backward: u32) -> Result<Answer, Refusal> {
-    Ok(Answer { zeros, longest_sum, rungs, backward })
+/// The four counts of an answer, which is whole.
+fn counts(got: Result<Answer, Refusal>) -> Result<Counts, Refusal> {
+    got.map(|a| {
+        assert!(a.is_whole() && a.unfinished == 0);
+        (a.zeros, a.longest_sum, a.rungs, a.backward)
+    })
 }
 
 #[test]
 fn i_of_0() {
     let mut out = [RUBBISH; 2];
-    assert_eq!(i_into(Complex::ZERO, 1.0, Unscaled, &mut out), answer(0, 0, 0, 0));
+    assert_eq!(counts(i_into(Complex::ZERO, 1.0, Unscaled, &mut out)), Ok((0, 0, 0, 0)));
     assert_eq!(out, [Complex::ZERO; 2]);
 }
 
@@ -22,7 +28,7 @@ fn i_of_a_tiny_argument() {
     let mut out = [RUBBISH; 3];
     let tiny = f64::from_bits(1 << 34);
     assert_eq!(tiny, 2f64.powi(-520) * 2f64.powi(-520));
-    assert_eq!(i_into(tiny.into(), 0.0, Unscaled, &mut out), answer(2, 0, 0, 0));
+    assert_eq!(counts(i_into(tiny.into(), 0.0, Unscaled, &mut out)), Ok((2, 0, 0, 0)));
     assert_eq!(out, [Complex::new(1.0, 0.0), Complex::ZERO, Complex::ZERO]);
 }
 
@@ -56,7 +62,7 @@ fn slices_of_no_entry_and_of_too_many() {
 fn i_beyond_its_series() {
     let mut out = [RUBBISH; 1];
     assert_eq!(i_into(Complex::from(4.0), 0.0, Unscaled, &mut out), Err(Refusal::Series));
-    assert_eq!(i_into(Complex::from(2.0), 0.0, Unscaled, &mut out), answer(0, 12, 0, 0));
+    assert_eq!(counts(i_into(Complex::from(2.0), 0.0, Unscaled, &mut out)), Ok((0, 12, 0, 0)));
 }
 
 #[test]
@@ -72,7 +78,7 @@ fn log_gammas() {
 
 #[test]
 fn k_at_2() {
-    assert_eq!(k_into(Complex::from(2.0), 0.0, Unscaled, &mut [RUBBISH]), answer(0, 18, 0, 0));
+    assert_eq!(counts(k_into(Complex::from(2.0), 0.0, Unscaled, &mut [RUBBISH])), Ok((0, 18, 0, 0)));
 }
 
 #[test]
@@ -83,33 +89,6 @@ fn unscaled_k_at_800() {
     assert_eq!(out, [Complex::ZERO; 2]);
     assert_eq!(k_into(z, 1.0, Unscaled, &mut out[..1]).map(|a| a.zeros), Ok(1));
     assert_eq!(k_into(z, 1.0, Unscaled, &mut out), Err(Refusal::Climb));
-}
-
-#[test]
-fn an_unfinished_i() {
-    let value = f64::from_bits;
-    let z = Complex::new(value(0x403E_2A75_B881_2B83), value(0xC035_EF2D_038D_1EF8));
-    let mut out = [RUBBISH; 50];
-    assert_eq!(i_into(z, value(0x4072_9C5E_15A0_1B31), Scaled, &mut out).map(|a| a.zeros), Ok(-1));
-    assert!(out[..48].iter().all(|w| w.re.is_nan() && w.im.is_nan()));
-    assert_eq!(out[48], Complex::ZERO);
-    assert!(out[49].re.is_finite() && out[49] != Complex::ZERO);
-}
-
-#[test]
-fn refusals_have_their_numbers_and_words() {
-    let mut seen = std::collections::BTreeSet::new();
-    assert_eq!(Refusal::from_number(0), None);
-    for number in 1..=12 {
-        let refusal = Refusal::from_number(number).unwrap();
-        assert_eq!(refusal.number(), number);
-        assert!(refusal.to_string().starts_with(&format!("refusal {number}: ")));
-        seen.insert(refusal.to_string());
-    }
-    assert_eq!(seen.len(), 12);
-    assert_eq!(Refusal::from_number(11), Some(Refusal::Other(11)));
-    let error: Box<dyn std::error::Error> = Box::new(Refusal::Zero);
-    assert_eq!(error.to_string(), "refusal 4: K of zero");
 }
 
 #[test]
@@ -134,6 +113,23 @@ fn elementary_routines() {
 #[test]
 fn a_complex_number_is_two_cells() {
     assert_eq!((size_of::<Complex>(), align_of::<Complex>()), (16, 8));
-    assert_eq!(<(f64, f64)>::from(Complex::from((1.0, -2.0))), (1.0, -2.0));
     assert_eq!(Complex::new(1.5, -0.25).to_string(), "1.5-0.25i");
+}
+
+#[test]
+fn conversions_keep_every_bit_and_every_place() {
+    let parts = [0.0, -0.0, 1.5, -2.0, f64::from_bits(1), f64::MAX, f64::INFINITY, f64::NEG_INFINITY, f64::from_bits(0x7FF0_0000_0000_0001), -f64::NAN];
+    let bits = |pair: (f64, f64)| (pair.0.to_bits(), pair.1.to_bits());
+    for re in parts {
+        for im in parts {
+            let want = (re.to_bits(), im.to_bits());
+            for z in [Complex::new(re, im), Complex::from((re, im)), Complex::from([re, im])] {
+                assert_eq!((z.re.to_bits(), z.im.to_bits()), want);
+                assert_eq!(bits(z.into()), want);
+                assert_eq!(<[f64; 2]>::from(z).map(f64::to_bits), [want.0, want.1]);
+            }
+        }
+        let z = Complex::from(re);
+        assert_eq!((z.re.to_bits(), z.im.to_bits()), (re.to_bits(), 0));
+    }
 }

@@ -1,0 +1,26 @@
+//! K and I of one order, K of several with the counts of the steps taken, and calls that are refused: the words, and what to do.
+
+use lichenoar::{i, k, k_into, Complex, Refusal, Scaling};
+
+fn told(name: &str, value: Result<Complex, Refusal>) {
+    match value {
+        Ok(value) => println!("{name} = {value}"),
+        Err(refusal) => println!("{name}: {refusal}; {}", refusal.remedy()),
+    }
+}
+
+fn main() -> Result<(), Refusal> {
+    let z = Complex::new(1.5, -0.75);
+    told("K(0.25) at 1.5-0.75i, scaled", k(0.25, z, Scaling::Scaled));
+    told("I(0) at 2", i(0.0, Complex::from(2.0), Scaling::Unscaled));
+    told("K(0) at 0", k(0.0, Complex::ZERO, Scaling::Unscaled));
+    told("I(0) at 4", i(0.0, Complex::from(4.0), Scaling::Unscaled));
+
+    let mut out = [Complex::ZERO; 3];
+    let answer = k_into(z, 0.25, Scaling::Scaled, &mut out)?;
+    for (order, value) in out.iter().enumerate() {
+        println!("K({}) at 1.5-0.75i, scaled = {value}", 0.25 + order as f64);
+    }
+    println!("zeros {}, longest sum {}, rungs {}, backward steps {}", answer.zeros, answer.longest_sum, answer.rungs, answer.backward);
+    Ok(())
+}

@@ -1,5 +1,5 @@
-//! The record that K and I return across the C boundary, and how they are called, once for every Rust program here (by `#[path]`). A record of more than 16 bytes comes back
-//! through a pointer that the caller passes first: so x86-64's calling convention has it, and so the archive for another processor has it too, since it is made of the same module.
+//! The record that K and I return across the C boundary, and how they are called, once for every Rust program here (by `#[path]`). The caller passes a pointer to it before
+//! the arguments, since it has more than 16 bytes: so x86-64's calling convention has it, and so the archive for another processor has it too, since it is made of the same module.
 
 #[repr(C)]
 #[derive(Default)]

@@ -1,6 +1,6 @@
 #!/usr/bin/env bash
 # soak.sh SECONDS [CALLS]: runs the oracle over all entry points, each round with a fresh seed, until the time is over or CALLS calls were compared. Ends at the first
-# difference, with the call and the seed that gave it. Prints the totals by entry point. Not part of ./check; make.sh must have run.
+# difference, with the call and the seed that gave it. Prints the totals by entry point, and on standard error how far it is. Not part of ./check; make.sh must have run.
 set -u -o pipefail
 cd "$(dirname "$0")" || exit 2
 limit=${1:?usage: soak.sh SECONDS [CALLS]}
@@ -21,5 +21,6 @@ while [ "$SECONDS" -lt "$limit" ] && { [ "$wanted" -eq 0 ] || [ "$sum" -lt "$wan
         sum=$((sum + calls))
     done
     rounds=$((rounds + 1))
+    echo "soak: $rounds rounds, $sum calls, $SECONDS of $limit s" >&2
 done
 echo "soak: $sum calls compared in $SECONDS s, $rounds rounds, none different: log-gamma ${total[log_gamma]}, I ${total[i]}, K ${total[k]}"

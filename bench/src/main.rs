@@ -1,7 +1,13 @@
-//! Times the twelve elementary routines of libcapi.a against std's on the same arguments, in one process, interleaved, best of many rounds.
+//! Times the twelve elementary routines of libcapi.a against std's on the same arguments, in one process, interleaved. A run is the best of many rounds; of several runs the least,
+//! the median and the largest are printed, behind what they were measured on. `bench [ROUNDS [RUNS]]`: 400 rounds, 7 runs.
 //! Throughput: independent calls. Latency: each argument waits for the result before it (one exclusive-or of bits, the same for both sides).
-//! Prints one line a routine: nanoseconds a call and the ratio ours / std's, for each of the two.
+//! One line a routine: nanoseconds a call and the ratio ours / std's, for each of the two.
 
+#[path = "../../tools/host/runs.rs"]
+mod runs;
+
+use runs::{count_at, tell_machine, Rows};
+use std::cell::RefCell;
 use std::hint::black_box;
 use std::time::Instant;
 
@@ -65,7 +71,7 @@ fn latency(xs: &[f64], ys: &[f64], mask: u64, f: impl Fn(f64, f64) -> f64) -> f6
     begun.elapsed().as_nanos() as f64 / ARGUMENTS as f64
 }
 
-fn compare(name: &str, rounds: usize, xs: &[f64], ys: &[f64], ours: impl Fn(f64, f64) -> f64, theirs: impl Fn(f64, f64) -> f64) {
+fn compare(rows: &RefCell<Rows>, name: &str, rounds: usize, xs: &[f64], ys: &[f64], ours: impl Fn(f64, f64) -> f64, theirs: impl Fn(f64, f64) -> f64) {
     let mask = black_box(0u64);
     let mut best = [f64::INFINITY; 4];
     for _ in 0..rounds {
@@ -74,15 +80,7 @@ fn compare(name: &str, rounds: usize, xs: &[f64], ys: &[f64], ours: impl Fn(f64,
         best[2] = best[2].min(latency(xs, ys, mask, &ours));
         best[3] = best[3].min(latency(xs, ys, mask, &theirs));
     }
-    println!(
-        "| {name} | {:.2} | {:.2} | {:.2} | {:.2} | {:.2} | {:.2} |",
-        best[0],
-        best[1],
-        best[0] / best[1],
-        best[2],
-        best[3],
-        best[2] / best[3]
-    );
+    rows.borrow_mut().add(name, &best);
 }
 
 /// std's side is called as ours is: a function that is not inlined.
@@ -109,19 +107,33 @@ std_two! {
     std_atan2 |y, x| y.atan2(x);
 }
 
+const USAGE: &str = "usage: bench [ROUNDS [RUNS]]";
+
 fn main() {
-    let rounds = std::env::args().nth(1).and_then(|a| a.parse().ok()).unwrap_or(400);
-    let none = vec![0.0; ARGUMENTS];
+    let words: Vec<String> = std::env::args().skip(1).collect();
+    let (rounds, runs) = (count_at(&words, 0, 400, USAGE), count_at(&words, 1, 7, USAGE));
+    let rows = RefCell::new(Rows::new());
+    for run in 1..=runs {
+        eprintln!("bench: run {run} of {runs}");
+        all(&rows, rounds);
+    }
+    tell_machine(concat!(env!("CARGO_MANIFEST_DIR"), "/../tools/host/machine.sh"));
+    println!("Least / median / largest of {runs} runs, each the best of {rounds} rounds.\n");
     println!("| routine | throughput ns | std ns | ratio | latency ns | std ns | ratio |");
     println!("|---|---|---|---|---|---|---|");
+    rows.borrow().print(2);
+}
+
+fn all(rows: &RefCell<Rows>, rounds: usize) {
+    let none = vec![0.0; ARGUMENTS];
     let one = |name: &str, low: f64, high: f64, ours: unsafe extern "C" fn(f64) -> f64, theirs: extern "C" fn(f64) -> f64| {
         let xs = arguments(low, high, 7);
-        compare(name, rounds, &xs, &none, |x, _| unsafe { ours(x) }, |x, _| theirs(x));
+        compare(rows, name, rounds, &xs, &none, |x, _| unsafe { ours(x) }, |x, _| theirs(x));
     };
     let two = |name: &str, low: f64, high: f64, ours: unsafe extern "C" fn(f64, f64) -> f64, theirs: extern "C" fn(f64, f64) -> f64| {
         let xs = arguments(low, high, 7);
         let ys = arguments(low, high, 8);
-        compare(name, rounds, &xs, &ys, |x, y| unsafe { ours(x, y) }, |x, y| theirs(x, y));
+        compare(rows, name, rounds, &xs, &ys, |x, y| unsafe { ours(x, y) }, |x, y| theirs(x, y));
     };
     one("sqrt", 0.0, 46341.0, lichenoar_sqrt, std_sqrt);
     two("hypot", -100.0, 100.0, lichenoar_hypot, std_hypot);

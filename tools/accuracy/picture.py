@@ -1,11 +1,13 @@
-"""The two pictures of docs/plots: the plane cut into cells, each coloured by the worst error of the calls that fell into it."""
+"""The pictures of docs/plots: the plane cut into cells, each coloured by the worst error, by modulus, of the calls that fell into it. Imported by tables.py."""
 import math
 import struct
 
 COLUMNS, ROWS = 50, 36
 CELL = 8
-CLASSES = [2, 8, 32, 128, 512, 2048, math.inf]
-COLOURS = ["#e3eef9", "#b7d4ea", "#7db8da", "#4594c7", "#1c6bb0", "#08478d", "#d9480f"]
+# in units of 2^-52; the tables of docs/ACCURACY.md count what is above the two that have a name
+FAR_OFF, IN_A_THOUSAND = 4096, 2**52 / 1000
+CLASSES = [4, 16, 64, 256, 1024, FAR_OFF, IN_A_THOUSAND, math.inf]
+COLOURS = ["#e3eef9", "#b7d4ea", "#7db8da", "#4594c7", "#1c6bb0", "#08478d", "#f59f00", "#c92a2a"]
 ZERO = "#d0d0d0"
 
 
@@ -21,21 +23,28 @@ def class_of(error):
     return next(i for i, limit in enumerate(CLASSES) if error <= limit)
 
 
-def cells(calls, across, upward):
-    """The colour of each cell that some call reached; a refused call colours nothing."""
+def modulus_of(f):
+    return math.hypot(number(f[5]), number(f[6]))
+
+
+def real_part_of(f):
+    return number(f[5])
+
+
+def cells(calls, across, upward, place=modulus_of):
+    """The colour of each cell that some call reached, by its place from left to right and its order; a refused call colours nothing."""
     worst, zero = {}, set()
     for f in calls:
         if f[7] != "0":
             continue
-        v, modulus = number(f[4]), math.hypot(number(f[5]), number(f[6]))
-        x, y = across(modulus), upward(v)
+        x, y = across(place(f)), upward(number(f[4]))
         if not (0 <= x < 1 and 0 <= y < 1):
             continue
         cell = (int(x * COLUMNS), int(y * ROWS))
         if f[22] == "z":
             zero.add(cell)
         elif f[22] not in "-un":
-            worst[cell] = max(worst.get(cell, 0.0), float(f[22]))
+            worst[cell] = max(worst.get(cell, 0.0), float(f[22].split("/")[0]))
     colours = {cell: ZERO for cell in zero}
     colours.update({cell: COLOURS[class_of(e)] for cell, e in worst.items()})
     return colours
@@ -60,12 +69,12 @@ def panel(left, top, title, colours, x_ticks, y_ticks, x_name, y_name):
 
 
 def key(left, top):
-    labels = [f"to {limit:,}" for limit in CLASSES[:-1]] + [f"above {CLASSES[-2]:,}", "set to zero"]
+    labels = [f"to {limit:,}" for limit in CLASSES[:-2]] + ["to 1 in 1,000", "more", "set to zero"]
     out = [f'<text x="{left}" y="{top + 11}">worst error of a cell, in units of {power(-52)}:</text>']
     x = left + 225
     for colour, label in zip(COLOURS + [ZERO], labels):
         out.append(f'<rect x="{x}" y="{top}" width="14" height="14" fill="{colour}" stroke="#999" stroke-width="0.5"/><text x="{x + 19}" y="{top + 11}">{label}</text>')
-        x += 46 + 6 * len(label)
+        x += 34 + 6 * len(label)
     return out
 
 
@@ -96,4 +105,13 @@ def write_pictures(pictures):
         [(m / 38, str(m)) for m in (0, 10, 20, 30, 38)],
         [(v / 360, str(v)) for v in (0, 50, 100, 150, 200, 250, 300, 350)],
         "|z|; white: refused, the argument is too large for the series",
+    )
+    across, upward = lambda re: (re - 660) / 450, lambda v: v / 1000
+    write(
+        "docs/plots/k_climb.svg",
+        "Error of plain K where e^-re underflows, n = 1",
+        [(f"K unscaled, {words}", cells(pictures[f"picture_k_climb_{name}"], across, upward, real_part_of)) for name, words in (("real_axis", "im = 0"), ("off_the_axis", "|im| to 600"))],
+        [(across(re), "" if re == 1073 else str(re)) for re in (665, 701, 800, 900, 1000, 1073, 1101)],
+        [(upward(v), str(v)) for v in range(0, 1001, 200)],
+        "re; white: refused, no two neighbouring orders on scale",
     )

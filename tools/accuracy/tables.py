@@ -1,12 +1,14 @@
 #!/usr/bin/env python3
-"""tables.py ERRORS FAR: reads what truth.c printed and writes the tables of docs/ACCURACY.md, between its two marks, and the pictures of docs/plots."""
+"""tables.py ERRORS FAR: reads what truth.c printed and writes the tables of docs/ACCURACY.md, between its two marks, and the pictures of docs/plots.
+The thresholds of its last table are those of the pictures (picture.py)."""
 import math
 import sys
 from collections import defaultdict
 
-from picture import number, write_pictures
+from picture import FAR_OFF, IN_A_THOUSAND, number, write_pictures
 
 DOCUMENT = "docs/ACCURACY.md"
+FEWEST = 100  # entries that a median and a 99% are given for
 BEGIN, END = "<!-- tables of tools/accuracy begin -->\n", "<!-- tables of tools/accuracy end -->\n"
 
 # the branches and their words, in the order of the document
@@ -38,7 +40,10 @@ WORDS = {
     "i_0-340_long_lists": "n = 512, order 0 to 340, unscaled",
     "i_340-365_near_the_edge": "order 340 to 365, \\|z\\| at least 0.9 of its limit, unscaled",
     "i_tiny_z_2^-1000_to_2^-10": "\\|z\\| 2^-1000 to 2^-10, order 0 to 3",
+    "i_340-1000": "\\|z\\| to 2√(v+n), order 340 to 1,000, unscaled and scaled",
 }
+# regions that are one row: hardly an entry of either is not zero
+MERGED = {"i_340-1000_unscaled": "i_340-1000", "i_340-1000_scaled": "i_340-1000"}
 
 
 def words_of(key):
@@ -57,7 +62,8 @@ class Region:
         self.asked, self.answered, self.zeros, self.unknown = 0, [0, 0, 0], [0, 0, 0], 0
         self.unfinished = 0
         self.refused = defaultdict(int)
-        self.errors = ([], [], [])  # (error, the call, the entry)
+        self.errors = ([], [], [])  # of each side: (error by modulus, the call, the entry)
+        self.parts = ([], [], [])  # of each side: error of the worse part
         self.largest_zero = -math.inf
 
     def add(self, fields):
@@ -81,31 +87,40 @@ class Region:
                 elif error == "n":
                     self.unfinished += side == 0
                 elif error != "-":
-                    self.errors[side].append((float(error), fields, end))
+                    whole, part = map(float, error.split("/"))
+                    self.errors[side].append((whole, fields, end))
+                    self.parts[side].append(part)
 
     def finish(self):
         for errors in self.errors:
             errors.sort(key=lambda e: e[0])
+        for parts in self.parts:
+            parts.sort()
 
-    def quantile(self, side, q):
-        errors = self.errors[side]
-        return errors[min(len(errors) - 1, int(q * len(errors)))][0] if errors else None
+
+def spread(errors):
+    """Median, 99% and worst of a sorted list, or its worst alone where it is short."""
+    if not errors:
+        return "-"
+    at = lambda q: figure(errors[min(len(errors) - 1, int(q * len(errors)))])
+    return f"{at(0.5)} / {at(0.99)} / {at(1.0)}" if len(errors) >= FEWEST else f"- / - / {at(1.0)}"
 
 
 def figure(x):
-    if x is None:
-        return "-"
     if x < 9.95:
         return f"{x:.1f}"
+    if x == math.inf:
+        return "above 1e+308"
     return f"{x:,.0f}" if x < 1e7 else f"{x:.1e}"
 
 
 def figures(regions, kind):
-    yield "| region | asked | answered | entries | zeros | ours: median | 99% | worst | text: median | 99% | worst | 644: median | 99% | worst |"
-    yield "|" + "---|" * 14
+    """Each cell of a side: median / 99% / worst."""
+    yield "| region | asked | answered | entries | zeros | ours, modulus | ours, worse part | text, modulus | text, worse part | 644, modulus | 644, worse part |"
+    yield "|" + "---|" * 11
     for key, r in regions.items():
         if key.startswith(kind + "_"):
-            columns = [figure(r.quantile(side, q)) for side in range(3) for q in (0.5, 0.99, 1.0)]
+            columns = [spread(errors) for side in range(3) for errors in ([e[0] for e in r.errors[side]], r.parts[side])]
             yield f"| {words_of(key)} | {r.asked:,} | {r.answered[0]:,} | {len(r.errors[0]):,} | {r.zeros[0]:,} | " + " | ".join(columns) + " |"
 
 
@@ -150,15 +165,15 @@ def far(path):
 
 
 def reach(regions):
-    """Where the entries lie whose error is above 4,096 units, region by region."""
-    yield "| region | entries | above 4,096 units | above 1 in 1,000 | their orders | re | \\|im\\| | text above 4,096 | 644 above 4,096 |"
+    """Where the entries lie whose error by modulus is above 4,096 units, region by region: the pictures' two highest classes."""
+    yield f"| region | entries | above {FAR_OFF:,} units | above 1 in 1,000 | their orders | re | \\|im\\| | text above {FAR_OFF:,} | 644 above {FAR_OFF:,} |"
     yield "|" + "---|" * 9
     for key, r in regions.items():
-        off = [(error, *map(number, f[4:7])) for error, f, _ in r.errors[0] if error > 4096]
-        others = [sum(error > 4096 for error, _, _ in r.errors[side]) for side in (1, 2)]
+        off = [(error, *map(number, f[4:7])) for error, f, _ in r.errors[0] if error > FAR_OFF]
+        others = [sum(error > FAR_OFF for error, _, _ in r.errors[side]) for side in (1, 2)]
         if not off and not any(others):
             continue
-        part = sum(error > 2**52 / 1000 for error, *_ in off)
+        part = sum(error > IN_A_THOUSAND for error, *_ in off)
         span = lambda place: f"{min(abs(o[place]) for o in off):.5g} to {max(abs(o[place]) for o in off):.5g}" if off else "-"
         yield f"| {key[0].upper()}: {words_of(key)} | {len(r.errors[0]):,} | {len(off):,} | {part:,} | {span(1)} | {span(2)} | {span(3)} | {others[0]:,} | {others[1]:,} |"
 
@@ -172,7 +187,7 @@ def read(path):
             if fields[0].startswith("picture_"):
                 pictures[fields[0]].append(fields)
             elif not fields[0].startswith("far_"):
-                regions[fields[0]].add(fields)
+                regions[MERGED.get(fields[0], fields[0])].add(fields)
     for r in regions.values():
         r.finish()
     return regions, pictures

@@ -1,5 +1,7 @@
-/* Reads the lines of oracle/accuracy (with the three columns of algorithm_644.c or without) and adds what Arb says of each: the error of every side's first and last entry,
-   |computed - true| / |true| in units of 2^-52, and log10 |true|. Precision is raised until the true value has at least 80 good bits. `truth --values` adds the true values, 40 digits. */
+/* Reads the lines of oracle/accuracy (with the three columns of algorithm_644.c or without) and adds what Arb says of each: two errors of every side's first and last entry, as M/P,
+   and log10 |true|. M is |computed - true| / |true|, complex moduli, in units of 2^-52; P is the larger of the same ratios of the real and of the imaginary part, where a part that is
+   zero in truth is left out and one below 2^-1022 is measured as if it were 2^-1022. Precision is raised until the true value has at least 80 good bits, and each of its parts.
+   `truth --values` adds the true values, 40 digits. Every 10,000 lines it says so on standard error. */
 #include <stdio.h>
 #include <stdlib.h>
 #include <string.h>
@@ -18,7 +20,18 @@ static double from_bits(const char *word) {
     return x;
 }
 
-/* The true value of order v + place at z, scaled or not, with at least 80 good bits; 0 where 65,536 bits do not give them. */
+/* Which parts are zero in truth: the imaginary one on the real axis, and one of the two for I of a whole order on the imaginary axis. */
+static int zero_parts(int is_k, double v, long place, double re, double im) {
+    if (im == 0.0) return 2;
+    if (is_k || re != 0.0 || v != floor(v)) return 0;
+    return ((long)v + place) % 2 ? 1 : 2;
+}
+
+static int good(const acb_t t, int zeros) {
+    return acb_rel_accuracy_bits(t) >= 80 && (zeros & 1 || arb_rel_accuracy_bits(acb_realref(t)) >= 80) && (zeros & 2 || arb_rel_accuracy_bits(acb_imagref(t)) >= 80);
+}
+
+/* The true value of order v + place at z, scaled or not, with at least 80 good bits in it and in each part; 0 where 65,536 bits do not give them. */
 static int truth(acb_t out, int is_k, int scaled, double v, long place, double re, double im, slong *prec) {
     acb_t z, nu, factor;
     acb_init(z), acb_init(nu), acb_init(factor);
@@ -34,14 +47,26 @@ static int truth(acb_t out, int is_k, int scaled, double v, long place, double r
             acb_exp(factor, factor, *prec);
             acb_mul(out, out, factor, *prec);
         }
-        met = acb_rel_accuracy_bits(out) >= 80;
+        met = good(out, zero_parts(is_k, v, place, re, im));
     }
     acb_clear(z), acb_clear(nu), acb_clear(factor);
     return met;
 }
 
-/* The error of (re, im): a number, z where both are zero, n where one is not finite. */
-static void put_error(const acb_t t, double re, double im) {
+/* |x - part| over |part|, or over 2^-1022 where that is larger, in units of 2^-52 */
+static double part_error(const arb_t part, double x) {
+    arb_t e, size, least;
+    arb_init(e), arb_init(size), arb_init(least);
+    arb_set_d(e, x), arb_sub(e, e, part, 4096), arb_abs(e, e);
+    arb_abs(size, part), arb_set_d(least, 0x1p-1022), arb_max(size, size, least, 64);
+    arb_div(e, e, size, 64), arb_mul_2exp_si(e, e, 52);
+    double out = arf_get_d(arb_midref(e), ARF_RND_NEAR);
+    arb_clear(e), arb_clear(size), arb_clear(least);
+    return out;
+}
+
+/* The errors of (re, im): two numbers, or z where both are zero, n where one is not finite. */
+static void put_error(const acb_t t, int zeros, double re, double im) {
     if (!isfinite(re) || !isfinite(im)) { printf(" n"); return; }
     if (re == 0.0 && im == 0.0) { printf(" z"); return; }
     acb_t c;
@@ -52,7 +77,8 @@ static void put_error(const acb_t t, double re, double im) {
     acb_abs(e, c, 64), acb_abs(m, t, 64);
     arb_div(e, e, m, 64);
     arb_mul_2exp_si(e, e, 52);
-    printf(" %.6g", arf_get_d(arb_midref(e), ARF_RND_NEAR));
+    double of_re = zeros & 1 ? 0.0 : part_error(acb_realref(t), re), of_im = zeros & 2 ? 0.0 : part_error(acb_imagref(t), im);
+    printf(" %.6g/%.6g", arf_get_d(arb_midref(e), ARF_RND_NEAR), fmax(of_re, of_im));
     acb_clear(c), arb_clear(e), arb_clear(m);
 }
 
@@ -76,7 +102,9 @@ int main(int count, char **words) {
     acb_t t;
     acb_init(t);
     slong prec, highest = 0;
+    long lines = 0;
     while (fgets(line, sizeof line, stdin)) {
+        if (++lines % 10000 == 0) fprintf(stderr, "truth: %ld lines\n", lines);
         line[strcspn(line, "\n")] = 0;
         strcpy(copy, line);
         int fields = 0;
@@ -86,13 +114,16 @@ int main(int count, char **words) {
         printf("%s", line);
         long n = atol(field[3]);
         for (int end = 0; end < (n == 1 ? 1 : 2) && answered; end++) {
-            int known = truth(t, field[1][0] == 'K', field[2][0] == '1', from_bits(field[4]), end ? n - 1 : 0, from_bits(field[5]), from_bits(field[6]), &prec);
+            int is_k = field[1][0] == 'K';
+            long place = end ? n - 1 : 0;
+            double v = from_bits(field[4]), x = from_bits(field[5]), y = from_bits(field[6]);
+            int known = truth(t, is_k, field[2][0] == '1', v, place, x, y, &prec), zeros = zero_parts(is_k, v, place, x, y);
             if (prec > highest) highest = prec;
             for (int side = 8; side + 3 < fields; side += 5) {
                 int said = side == 8 || strcmp(field[side - 1], "1") == 0;
                 if (!known) printf(" u");
                 else if (!said) printf(" -");
-                else put_error(t, from_bits(field[side + 2 * end]), from_bits(field[side + 2 * end + 1]));
+                else put_error(t, zeros, from_bits(field[side + 2 * end]), from_bits(field[side + 2 * end + 1]));
             }
             if (known) put_size(t); else printf(" u");
             if (values) put_values(t);

@@ -1,11 +1,12 @@
 #!/usr/bin/env python3
-"""scan.py: the three random scans whose figures docs/DIFFERENCES.md gives, through the program that run.sh FORTRAN built. Each has its own seed."""
+"""scan.py: the three random scans whose figures docs/DIFFERENCES.md gives, through the program that run.sh FORTRAN built. Each has its own seed. How far it is stands on standard error."""
 import math
 import os
 import random
 import re
 import struct
 import subprocess
+import sys
 from collections import Counter
 from mpmath import mp, mpc, mpf
 from truth import k
@@ -25,6 +26,10 @@ def run(calls):
         elif m := re.match(r"        \[\d+\] ([0-9A-F]{16}) \S+ ([0-9A-F]{16})", line):
             row[1].append(tuple(struct.unpack(">d", bytes.fromhex(x))[0] for x in m.groups()))
     return zip(calls, rows)
+
+
+def tell(words):
+    print("scan.py:", words, file=sys.stderr)
 
 
 def refused(row):
@@ -50,16 +55,20 @@ def anywhere():
     return scaled, n, float(v), 0.0 if abs(a) == math.pi / 2 else size * math.cos(a), size * math.sin(a)
 
 
+tell("60,000 calls anywhere")
 random.seed(11)
 print("refusal 7, 60,000 calls anywhere:", Counter("zeros" if zeros(row["644"]) else "values alone" for _, row in run([anywhere() for _ in range(60000)]) if refused(row) == 7))
 
+tell("3,000 calls of large orders near underflow")
 random.seed(7)
 calls = []
 for _ in range(3000):
     v, x = random.uniform(850, 1000), random.uniform(1020, 1130)
     calls.append((0, 1, v, x, random.choice([0.0, 10 ** random.uniform(-20, 0), random.uniform(-3, 3), random.uniform(-1000, 1000)])))
 tally, off = Counter(), []
-for c, row in run(calls):
+for place, (c, row) in enumerate(run(calls)):
+    if place % 500 == 499:
+        tell(f"{place + 1} of {len(calls)}")
     number = refused(row)
     tally["refused 7" if number == 7 else f"number {number}"] += 1
     if number == 0:
@@ -72,6 +81,7 @@ print("large orders near underflow, 3,000 calls:", dict(tally), "off", len(off),
 for name, i in (("v", 2), ("re", 3), ("im", 4)):
     print("   ", name, min(abs(c[i]) for _, c in off), max(abs(c[i]) for _, c in off))
 
+tell("20,000 calls at |z| near 1e-308")
 random.seed(3)
 calls = []
 for _ in range(20000):

@@ -1,5 +1,6 @@
 #!/usr/bin/env python3
-"""truth.py < CALLS: the true first and last entries of the calls in the domain, by mpmath at 60 digits and more: K upward from its two lowest orders, I order by order."""
+"""truth.py < CALLS: the true first and last entries of the calls in the domain, by mpmath at 60 digits and more: K upward from its two lowest orders, I order by order.
+The line at work stands on standard error."""
 import struct
 import sys
 from mpmath import besseli, besselk, exp, floor, log10, mp, mpc, mpf, nstr
@@ -23,7 +24,7 @@ def of(bits):
 
 
 def main():
-    for line in sys.stdin:
+    for place, line in enumerate(sys.stdin, 1):
         words = line.split()
         if not words or words[0] not in "KI":
             continue
@@ -31,6 +32,7 @@ def main():
         n, odd = divmod(int(words[2]), 2)
         if n < 1 or odd or not (0 <= v <= 1000 and 0 <= re <= 32768 and abs(im) <= 32768) or re == im == 0:
             continue
+        print(f"truth.py: line {place}", file=sys.stderr)
         mp.dps = 60
         z = mpc(re, im) if im else mpf(re)
         if words[0] == "K":

@@ -236,7 +236,9 @@ def write(routine, half, seed, extra):
     draw, truth = RANGES[routine]
     r = random.Random(f"{seed}/{routine}")
     out = [f"{routine} {half} seed={seed} records={HALF}{extra}\n".encode("ascii")]
-    for _ in range(HALF):
+    for place in range(HALF):
+        if place % 512 == 0:
+            print(f"{routine}.{half}: {place} of {HALF}", file=sys.stderr)
         x = draw(r)
         xs = x if isinstance(x, tuple) else (x,)
         if truth is None:

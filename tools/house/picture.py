@@ -16,7 +16,7 @@ HEAD = 'viewBox="0 0 8 8" refX="7" refY="4" markerWidth="8" markerHeight="8" mar
 SHADES = ["#f9fafb", "#f4f6f9"]
 TINT = {"src": "#8fb3e0", "specs": "#9bd3b0", "proofs": "#f0c98a"}
 SAYS = {"code": "its code calls or holds it", "definition": "its contracts or definitions name it", "proof": "its proofs alone name it"}
-BOX, HEIGHT, GAP, LANE, ROW, MARGIN = 132, 46, 26, 14, 116, 40
+BOX, HEIGHT, GAP, LANE, ROW, MARGIN = 148, 46, 26, 14, 116, 40
 
 
 class House:

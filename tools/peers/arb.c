@@ -1,4 +1,5 @@
-/* Times Arb's K and I on the arguments that it reads (v, re and im as patterns, a line each): arb K|KE|I N, where KE is scaled; N orders a call, 64 bits of working precision, one pass over 200 calls. */
+/* Times Arb's K and I on the arguments that it reads (v, re and im as patterns, a line each): arb K|KE|I N, where KE is scaled; N orders a call, 64 bits of working precision, one pass over 200 calls.
+   With one word, whatever it is, arb prints the library's version. */
 #if __has_include(<flint/acb_hypgeom.h>)
 #include <flint/acb_hypgeom.h>
 #else
@@ -17,6 +18,11 @@ static double now(void) {
 }
 
 int main(int argc, char **argv) {
+#ifdef ARB_VERSION
+    if (argc == 2) return printf("Arb %s\n", ARB_VERSION) < 0;
+#else
+    if (argc == 2) return printf("FLINT %s\n", FLINT_VERSION) < 0;
+#endif
     if (argc != 3) return 2;
     int scaled = !strcmp(argv[1], "KE"), k = argv[1][0] == 'K', n = atoi(argv[2]), calls = 0;
     unsigned long long b[3];

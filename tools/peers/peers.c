@@ -1,5 +1,6 @@
 /* Times lichenoar_k and lichenoar_i beside the Fortran kernels of Algorithm 644 (ZBKNU, ZSERI) on the workloads of docs/PERFORMANCE.md: the same arguments, in one process, interleaved,
-   the best of many rounds. peers [ROUNDS] prints a table; with --inputs W it prints the arguments of a workload as hexadecimal patterns instead, for times.py. */
+   A run is the best of many rounds. peers [ROUNDS [RUNS]] prints a table, the least / the median / the largest of several runs in each cell; with --inputs W it prints the arguments of a workload
+   as hexadecimal patterns instead, for times.py. */
 #include "../../bindings/c/lichenoar.h"
 #include "../accuracy/small_644.h"
 #include "../host/splitmix.h"
@@ -8,7 +9,7 @@
 #include <string.h>
 #include <time.h>
 
-enum { ARGUMENTS = 2048, LONG = 64 };
+enum { ARGUMENTS = 2048, LONG = 64, WORKLOADS = 6, MOST_RUNS = 99 };
 
 typedef struct {
     double v, re, im;
@@ -55,11 +56,14 @@ static double now(void) {
     return 1e9 * (double)t.tv_sec + (double)t.tv_nsec;
 }
 
-static void workload(char w, int n, int rounds) {
+/* nanoseconds a call, ours and Algorithm 644's */
+static void workload(char w, int n, int rounds, double best[2]) {
     static ask asks[ARGUMENTS];
     static double cells[1024], re[512], im[512];
     int k = w != 'd' && w != 'D', scaled = w == 'a' || w == 'b' || w == 'c', count = n > 100 ? LONG : ARGUMENTS, kode = scaled ? 2 : 1, zeros;
-    double best[2] = {1e300, 1e300}, sum = 0.0;
+    static volatile double sink;
+    double sum = 0.0;
+    best[0] = best[1] = 1e300;
     lichenoar_answer answer;
     state = 0x6B65727600000000u + (unsigned char)w;
     for (int i = 0; i < count; i++) asks[i] = next(w);
@@ -80,7 +84,20 @@ static void workload(char w, int n, int rounds) {
         ended = now();
         if (ended - begun < best[1]) best[1] = ended - begun;
     }
-    printf("| %c | %.1f | %.1f | %.2f |%s\n", w, best[0] / count, best[1] / count, best[0] / best[1], sum == 0.0 ? " " : "");
+    sink = sum;
+    best[0] /= count, best[1] /= count;
+}
+
+static int order(const void *a, const void *b) {
+    double x = *(const double *)a, y = *(const double *)b;
+    return (x > y) - (x < y);
+}
+
+/* least / median / largest, which puts them in order */
+static void put_spread(double *times, int runs, int digits) {
+    qsort(times, (size_t)runs, sizeof *times, order);
+    double median = runs % 2 ? times[runs / 2] : (times[runs / 2 - 1] + times[runs / 2]) / 2.0;
+    printf(" %.*f / %.*f / %.*f |", digits, times[0], digits, median, digits, times[runs - 1]);
 }
 
 int main(int argc, char **argv) {
@@ -94,8 +111,23 @@ int main(int argc, char **argv) {
         }
         return 0;
     }
-    int rounds = argc > 1 ? atoi(argv[1]) : 300;
-    printf("| workload | ns a call | Algorithm 644, ns | ratio |\n|---|---|---|---|\n");
-    for (const char *w = "abBcdD"; *w; w++) workload(*w, *w == 'a' ? 2 : *w == 'c' ? 512 : *w == 'd' ? 1 : 10, rounds);
+    static const char letters[] = "abBcdD";
+    static double ours[WORKLOADS][MOST_RUNS], theirs[WORKLOADS][MOST_RUNS], ratios[WORKLOADS][MOST_RUNS];
+    int rounds = argc > 1 ? atoi(argv[1]) : 300, runs = argc > 2 ? atoi(argv[2]) : 7;
+    if (rounds < 1 || runs < 1 || runs > MOST_RUNS) return 2;
+    for (int run = 0; run < runs; run++) {
+        fprintf(stderr, "peers: run %d of %d\n", run + 1, runs);
+        for (int w = 0; w < WORKLOADS; w++) {
+            double best[2];
+            workload(letters[w], letters[w] == 'a' ? 2 : letters[w] == 'c' ? 512 : letters[w] == 'd' ? 1 : 10, rounds, best);
+            ours[w][run] = best[0], theirs[w][run] = best[1], ratios[w][run] = best[0] / best[1];
+        }
+    }
+    printf("Least / median / largest of %d runs, each the best of %d rounds.\n\n| workload | ns a call | Algorithm 644, ns | ratio |\n|---|---|---|---|\n", runs, rounds);
+    for (int w = 0; w < WORKLOADS; w++) {
+        printf("| %c |", letters[w]);
+        put_spread(ours[w], runs, 1), put_spread(theirs[w], runs, 1), put_spread(ratios[w], runs, 2);
+        printf("\n");
+    }
     return 0;
 }

@@ -1,5 +1,7 @@
 #!/usr/bin/env python3
-"""times.py PEERS: times SciPy's kve, kv and iv on the workloads, array calls over the same arguments, one order after another. PEERS is the program of peers.c, which prints the arguments."""
+"""times.py PEERS [RUNS]: times SciPy's kve, kv and iv on the workloads, array calls over the same arguments, one order after another. PEERS is the program of peers.c, which
+prints the arguments. A run is the best of 20 rounds; a cell has the least / the median / the largest of RUNS runs."""
+import statistics
 import struct
 import subprocess
 import sys
@@ -17,17 +19,25 @@ def asks(program, workload):
     return rows[:, 0], rows[:, 1] + 1j * rows[:, 2]
 
 
+def best(function, count, v, z):
+    """Nanoseconds a call, the best of 20 rounds."""
+    spent = []
+    for _ in range(20):
+        begun = time.perf_counter()
+        for i in range(count):
+            function(v + i, z)
+        spent.append(time.perf_counter() - begun)
+    return min(spent) / len(z) * 1e9
+
+
 def main():
-    print(f"SciPy {__version__}\n| workload | ns a call |\n|---|---|")
+    runs = int(sys.argv[2]) if len(sys.argv) > 2 else 7
+    print(f"\nSciPy {__version__}, numpy {numpy.__version__}\n| workload | ns a call |\n|---|---|")
     for workload, (function, count) in FUNCTIONS.items():
+        print(f"peers: SciPy, {workload}", file=sys.stderr)
         v, z = asks(sys.argv[1], workload)
-        best = float("inf")
-        for _ in range(20):
-            begun = time.perf_counter()
-            for i in range(count):
-                function(v + i, z)
-            best = min(best, time.perf_counter() - begun)
-        print(f"| {workload} | {best / len(z) * 1e9:.0f} |")
+        times = [best(function, count, v, z) for _ in range(runs)]
+        print(f"| {workload} | {min(times):.0f} / {statistics.median(times):.0f} / {max(times):.0f} |")
 
 
 if __name__ == "__main__":

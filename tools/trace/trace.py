@@ -1,6 +1,8 @@
 #!/usr/bin/env python3
-"""trace.py: holds docs/TRACE.md to the repository. Every number of the list of obligations has one heading there; under it stands 'To come', or a pointer; every
-quoted statement (a fenced block whose first line names a file) stands in that file, blanks and line ends aside; every path in backticks exists."""
+"""trace.py            holds docs/TRACE.md to the repository. Every number of the list of obligations has one heading there; under it stands 'To come', or a pointer; every
+                    quoted statement (a fenced block, behind a line that ends with a path in backticks and a colon) stands in that file, blanks and line ends aside; every
+                    path in backticks exists.
+trace.py --write    first brings out the paths that stand behind the three marks of a block, where a rendered page does not show them."""
 import os
 import re
 import sys
@@ -18,11 +20,41 @@ NUMBERS = (
 )
 
 
+HIDDEN = re.compile(r"^```(\S+/\S+)\n", flags=re.M)
+
+
 def squeeze(text):
     return " ".join(text.split())
 
 
+def bring_out():
+    text = open(PAGE, encoding="utf-8").read()
+    text, count = HIDDEN.subn(lambda found: f"`{found[1]}`:\n```\n", text)
+    open(PAGE, "w", encoding="utf-8").write(text)
+    print(f"TRACE.md: {count} paths brought out")
+
+
+def quoted(body):
+    """The path and the text of every block; None for the path, and what is wrong, where no reader of the rendered page sees one."""
+    lines, above = iter(body.split("\n")), ""
+    for line in lines:
+        if line.startswith("```"):
+            quote = "\n".join(iter(lambda: next(lines, "```"), "```"))
+            named = re.search(r"`([^`\s]+/[^`\s]+)`:$", above)
+            if line != "```":
+                yield None, f"{line[3:]} behind the marks of a block is not shown (trace.py --write)"
+            elif not named:
+                yield None, f"no file is named above a block: {squeeze(quote)[:120]}"
+            else:
+                yield named[1], quote
+        above = line
+
+
 def main():
+    if sys.argv[1:] == ["--write"]:
+        bring_out()
+    elif sys.argv[1:]:
+        sys.exit(__doc__)
     text = open(PAGE, encoding="utf-8").read()
     parts = re.split(r"^### (\S+)", text, flags=re.M)
     heads, bodies = parts[1::2], parts[2::2]
@@ -32,7 +64,7 @@ def main():
             bad.append(f"{number} has {heads.count(number)} headings")
     bad += [f"{head} is no number of the list" for head in heads if head not in NUMBERS]
     for head, body in zip(heads, bodies):
-        blocks = re.findall(r"^```(\S+)\n(.*?)^```", body, flags=re.M | re.S)
+        blocks = list(quoted(body))
         prose = re.sub(r"^```.*?^```", "", body, flags=re.M | re.S)
         paths = [p for p in re.findall(r"`([^`\s]+/[^`\s]*)`", prose)]
         if "To come" in prose:
@@ -43,6 +75,9 @@ def main():
             if not os.path.exists(os.path.join(TOP, path)):
                 bad.append(f"{head}: there is no {path}")
         for path, quote in blocks:
+            if path is None:
+                bad.append(f"{head}: {quote}")
+                continue
             quotes += 1
             try:
                 file = squeeze(open(os.path.join(TOP, path), encoding="utf-8").read())

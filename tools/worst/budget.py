@@ -1,3 +1,4 @@
+#!/usr/bin/env python3
 """Holds the budget of docs/WORST-CASE.md to calls drawn over the whole domain: budget.py [CALLS [SEED]]. Prints how many were held to it and the least room left; a call above its budget
 ends the run with 1."""
 import math
@@ -82,6 +83,7 @@ def main():
         one = drawn()
         if one:
             asked.append(one)
+    print(f"budget.py: counting the instructions of {size} calls, some minutes", file=sys.stderr)
     inside, room, bad = 0, 10 ** 9, 0
     for (total, call, answer), (_, budget) in zip(count.counted(count.build("count"), [c for c, _ in asked]), asked):
         most = budget(answer)

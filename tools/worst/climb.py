@@ -1,3 +1,4 @@
+#!/usr/bin/env python3
 """Climbs from the calls that search.c found to longer ones, by exact instruction counts.
 
 climb.py KIND FILE LARGEST_V LARGEST_N SEED: each turn changes the longest calls known a little, counts some 400 changed ones in one run of callgrind, and keeps the longest 40.

@@ -1,3 +1,4 @@
+#!/usr/bin/env python3
 """Exact instruction counts of calls, by valgrind's callgrind. count.py FILE prints each call with its instructions and its answer's counts, longest first."""
 import os
 import re

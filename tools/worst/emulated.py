@@ -1,3 +1,4 @@
+#!/usr/bin/env python3
 """Exact instruction counts of the x86-64 archive, under the kit's emulator: emulated.py FILE prints each call with its instructions, in the file's order.
 
 The emulator runs one instruction at a time and writes the address of each; those from the entry of the library's function to the return are counted. A repeated

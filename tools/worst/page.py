@@ -1,8 +1,10 @@
+#!/usr/bin/env python3
 """Writes the tables of docs/WORST-CASE.md and the figures of its first section again, for the archives as they are: page.py, some 5 minutes. The budget's numbers are written by
 hand; budget.py holds the archive to them."""
 import contextlib
 import io
 import os
+import sys
 
 import count
 import steps
@@ -12,6 +14,7 @@ PAGE = os.path.join(count.ROOT, "docs", "WORST-CASE.md")
 
 
 def printed(function):
+    print(f"page.py: the tables of {function.__module__}.py", file=sys.stderr)
     out = io.StringIO()
     with contextlib.redirect_stdout(out):
         function()

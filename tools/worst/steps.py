@@ -1,3 +1,4 @@
+#!/usr/bin/env python3
 """What a step costs and what a call costs beside its steps: the two tables of docs/WORST-CASE.md, for this processor's archive (callgrind) and for the x86-64 one (the kit's emulator).
 
 A step's cost is the middle one of the differences between neighbours in a family of calls that differ in one count alone. The rest of a call is its instructions less those of its

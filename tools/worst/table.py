@@ -1,3 +1,4 @@
+#!/usr/bin/env python3
 """Prints the table of the longest calls of docs/WORST-CASE.md: each call of longest.txt, its class, the answer's counts, its instructions in both archives and its time here."""
 import os
 import platform

@@ -269,6 +269,20 @@ fn pictures(out: &mut Vec<Region>) {
     }
 }
 
+/// The picture of plain K where e^-re underflows: calls with n = 1, even over re and the order, on the real axis and off it.
+fn climb_pictures(out: &mut Vec<Region>) {
+    for (name, reach) in [("real_axis", 0.0), ("off_the_axis", 600.0)] {
+        let picture = region(
+            format!("picture_k_climb_{name}"),
+            Box::new(move |d, n| {
+                let (v, re, im) = (d.between(0.0, 1000.0), d.between(660.0, 1110.0), d.between(-reach, reach));
+                Some(Ask { is_k: true, scaled: false, v, re, im, n })
+            }),
+        );
+        out.push(Region { lengths: &[1], calls: 16000, zeros_count: true, ..picture });
+    }
+}
+
 /// The four answers that equal the Rust's and are far from the truth.
 fn far_from_the_truth(out: &mut Vec<Region>) {
     let b = f64::from_bits;
@@ -293,6 +307,7 @@ pub fn regions() -> Vec<Region> {
     i_orders(&mut out);
     i_ends(&mut out);
     pictures(&mut out);
+    climb_pictures(&mut out);
     far_from_the_truth(&mut out);
     out
 }

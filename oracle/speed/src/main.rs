@@ -1,13 +1,17 @@
-//! Times log-gamma, I and K of libcapi.a against the Rust text over std's functions, on the same arguments, in one process, interleaved, best of many rounds.
+//! Times log-gamma, I and K of libcapi.a against the Rust text over std's functions, on the same arguments, in one process, interleaved. A run is the best of many rounds; of several runs
+//! the least, the median and the largest are printed, behind what they were measured on. `speed [ROUNDS [LETTERS [RUNS]]]`: 400 rounds, 7 runs; LETTERS times those workloads alone.
 //! Log-gamma, throughput: independent calls; latency: each argument waits for the value before it. I and K: the whole entry point, every check and the record included,
 //! against the text's kernel alone. The workloads: K scaled, a: v=0, n=2, re=im from 2^-7 to 2^6; b: v<50, n=10, |z| from 0.1 to 50; B: as b, unscaled; c: v=1000, n=512,
-//! |z| from 1,700 to 3,000. I unscaled, v=0, |z| ≤ 2, d: n=1; D: n=10. `speed ROUNDS LETTERS` times those workloads alone.
+//! |z| from 1,700 to 3,000. I unscaled, v=0, |z| ≤ 2, d: n=1; D: n=10.
 
 #[path = "../../record.rs"]
 #[allow(dead_code)]
 mod record;
+#[path = "../../../tools/host/runs.rs"]
+mod runs;
 
 use record::{Answer, Entry};
+use runs::{count_at, tell_machine, Rows};
 use std::hint::black_box;
 use std::time::Instant;
 
@@ -78,7 +82,8 @@ fn asks(letter: char, count: usize) -> Vec<Ask> {
         .collect()
 }
 
-fn workload(letter: char, n: usize, rounds: usize) {
+/// Nanoseconds a call, ours and the text's.
+fn workload(letter: char, n: usize, rounds: usize) -> [f64; 2] {
     let is_k = !matches!(letter, 'd' | 'D');
     let scaled = matches!(letter, 'a' | 'b' | 'c');
     let (entry, scaling): (Entry, _) = (if is_k { lichenoar_k } else { lichenoar_i }, if scaled { native::Scaling::Scaled } else { native::Scaling::Unscaled });
@@ -107,7 +112,7 @@ fn workload(letter: char, n: usize, rounds: usize) {
         }
         best[1] = best[1].min(begun.elapsed().as_nanos() as f64 / calls as f64);
     }
-    println!("| {letter} | {:.1} | {:.1} | {:.2} |", best[0], best[1], best[0] / best[1]);
+    best
 }
 
 fn native_complex(re: f64, im: f64) -> num_std::Complex<f64> {
@@ -153,9 +158,9 @@ fn latency(xs: &[f64], mask: u64, f: impl Fn(f64) -> f64) -> f64 {
     begun.elapsed().as_nanos() as f64 / ARGUMENTS as f64
 }
 
-fn log_gamma(rounds: usize) {
+/// A row for each kind of argument: throughput and latency, ours and the text's.
+fn log_gamma(rounds: usize, rows: &mut Rows) {
     let mask = black_box(0u64);
-    println!("| log-gamma | throughput ns | text ns | ratio | latency ns | text ns | ratio |\n|---|---|---|---|---|---|---|");
     for (name, low, high, whole) in [("0 to 7", 0.0, 7.0, false), ("7 to 1,000", 7.0, 1000.0, false), ("whole, 1 to 100", 0.0, 100.0, true)] {
         let xs = arguments(low, high, whole);
         let mut best = [f64::INFINITY; 4];
@@ -165,22 +170,35 @@ fn log_gamma(rounds: usize) {
             best[2] = best[2].min(latency(&xs, mask, ours));
             best[3] = best[3].min(latency(&xs, mask, theirs));
         }
-        println!("| {name} | {:.2} | {:.2} | {:.2} | {:.2} | {:.2} | {:.2} |", best[0], best[1], best[0] / best[1], best[2], best[3], best[2] / best[3]);
+        rows.add(name, &best);
     }
-    println!();
 }
+
+const USAGE: &str = "usage: speed [ROUNDS [LETTERS [RUNS]]], LETTERS of abBcdD";
 
 fn main() {
     let words: Vec<String> = std::env::args().skip(1).collect();
-    let rounds = words.first().and_then(|a| a.parse().ok()).unwrap_or(400);
+    let (rounds, runs) = (count_at(&words, 0, 400, USAGE), count_at(&words, 2, 7, USAGE));
     let letters = words.get(1);
-    if letters.is_none() {
-        log_gamma(rounds);
-    }
-    println!("| workload | ns a call | text ns | ratio |\n|---|---|---|---|");
-    for (letter, n) in [('a', 2), ('b', 10), ('B', 10), ('c', 512), ('d', 1), ('D', 10)] {
-        if letters.map_or(true, |l| l.contains(letter)) {
-            workload(letter, n, rounds);
+    let (mut of_log_gamma, mut of_workloads) = (Rows::new(), Rows::new());
+    for run in 1..=runs {
+        eprintln!("speed: run {run} of {runs}");
+        if letters.is_none() {
+            log_gamma(rounds, &mut of_log_gamma);
+        }
+        for (letter, n) in [('a', 2), ('b', 10), ('B', 10), ('c', 512), ('d', 1), ('D', 10)] {
+            if letters.map_or(true, |l| l.contains(letter)) {
+                of_workloads.add(&letter.to_string(), &workload(letter, n, rounds));
+            }
         }
     }
+    tell_machine(concat!(env!("CARGO_MANIFEST_DIR"), "/../../tools/host/machine.sh"));
+    println!("Least / median / largest of {runs} runs, each the best of {rounds} rounds.\n");
+    if letters.is_none() {
+        println!("| log-gamma | throughput ns | text ns | ratio | latency ns | text ns | ratio |\n|---|---|---|---|---|---|---|");
+        of_log_gamma.print(2);
+        println!();
+    }
+    println!("| workload | ns a call | text ns | ratio |\n|---|---|---|---|");
+    of_workloads.print(1);
 }

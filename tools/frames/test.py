@@ -357,7 +357,8 @@ def runs(top, elsewhere):
 def interrupted(top, elsewhere):
     """Stopped from the keyboard while ./run is at work: one line, and no traceback."""
     made_up(top, "echo at work >&2; exec sleep 60")
-    with subprocess.Popen([os.path.join(top, "ask"), *EXAMPLE], cwd=elsewhere, stdout=subprocess.PIPE, stderr=subprocess.PIPE, start_new_session=True) as process:
+    with subprocess.Popen([os.path.join(top, "ask"), *EXAMPLE], cwd=elsewhere, stdout=subprocess.PIPE, stderr=subprocess.PIPE, start_new_session=True,
+                          preexec_fn=lambda: signal.signal(signal.SIGINT, signal.SIG_DFL)) as process:
         same(process.stderr.readline(), b"at work\n", "./run is at work")
         os.killpg(process.pid, signal.SIGINT)
         out, err = process.communicate(timeout=60)

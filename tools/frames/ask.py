@@ -3,8 +3,8 @@ import os
 import re
 import subprocess
 
-from frame import KINDS, Wrong, decimal, ended, framed, lost, number, put, say, value_of, visible
-from show import known, shown
+from frame import KINDS, SPECIAL, Wrong, answer, decimal, ended, framed, lost, number, put, say, value_of, visible
+from show import known, shown, unfinished
 
 RUN = os.path.join(os.path.dirname(os.path.abspath(__file__)), "..", "..", "run")
 USAGE = """usage: ./ask K|I ORDER N RE [IM] [--scaled] [--frame]
@@ -15,10 +15,12 @@ Asks for N consecutive orders from ORDER on, at RE + IM i, and shows the answer 
   RE, IM     the argument: RE from 0 to 32768, IM from -32768 to 32768 and 0 where it is left out
   --scaled   K times e^z, I times e^-RE
   --frame    writes the asking frame alone, for ./run
-A number is decimal, as -0.75 or 1e-3, or the 16 hexadecimal digits of an f64, as bits:3FD0000000000000.
-Status: 0 answered, 1 refused or something failed, 2 the words cannot be taken.
+A number is decimal, as -0.75 or 1e-3, or the 16 hexadecimal digits of an f64, as bits:3FD0000000000000, or Infinity, -Infinity or NaN,
+which are shown so too (inf and nan are taken as well; the sign of a NaN is dropped).
+Status: 0 answered, 1 refused or something failed, 2 the words cannot be taken, 3 answered with orders that are not finished (of I alone).
 """
 FIELDS = ("the kind", "the order", "the number of orders", "the real part", "the imaginary part")
+UNFINISHED = 3
 OPTIONS = ("--scaled", "--frame", "--help", "-h")
 
 
@@ -35,7 +37,7 @@ def asked(words):
     options = [word for word in words if word in OPTIONS]
     words = [word for word in words if word not in OPTIONS]
     for word in words:
-        if re.match(r"--|-[A-Za-z]", word) and not re.match(r"-(inf|nan)$", word):
+        if re.match(r"--|-[A-Za-z]", word) and not SPECIAL.fullmatch(word):
             raise Wrong(f"{visible(word)} is no word of ask; see --help")
     if len(words) < 4:
         raise Wrong(f"{', '.join(FIELDS[len(words):4])}: missing; see --help")
@@ -50,10 +52,14 @@ def asked(words):
     return (kind, "--scaled" in options, count, order, *parts, *([0] if len(parts) == 1 else [])), "--frame" in options
 
 
-def heading(kind, scaled, _count, _order, re_part, im_part):
-    factor = {"K": "e^z", "I": "e^-re"}[kind]
-    sign, size = ("-" if im_part >> 63 else "+"), value_of(im_part & ~(1 << 63))
-    return f"{kind}{f' times {factor}' if scaled else ''} at z = {decimal(value_of(re_part))} {sign} {decimal(size)} i"
+def heading(kind, scaled, count, order, re_part, im_part):
+    """What was asked, for the line above an answer or a refusal."""
+    factor = {"K": " times e^z", "I": " times e^-re"}[kind] if scaled else ""
+    first = decimal(value_of(order))
+    orders = f"order {first}" if count == 1 else f"{count} orders from {first}"
+    im = decimal(value_of(im_part))
+    im = f"- {im[1:]}" if im.startswith("-") else f"+ {im}"
+    return f"{kind}{factor}, {orders}, at z = {decimal(value_of(re_part))} {im} i"
 
 
 def answer_of(frame):
@@ -80,7 +86,7 @@ def table(fields):
         return text, 1
     if ran:
         say(f"ask: ./run answered, and ended with {ran}: something failed")
-    return text, 1 if ran or status else 0
+    return text, 1 if ran or status else UNFINISHED if unfinished(answer(line)[1]) else 0
 
 
 def main(words):

@@ -14,7 +14,7 @@ ASKING = ">BBHddd"
 RECORD = ">BhHHH"
 MOST_PAIRS = 512
 DECIMAL = re.compile(r"[+-]?([0-9]+(\.[0-9]*)?|\.[0-9]+)([eE][+-]?[0-9]+)?")
-SPECIAL = re.compile(r"[+-]?(inf|nan)")
+SPECIAL = re.compile(r"[+-]?(Infinity|inf|NaN|nan)")
 BITS = re.compile(r"bits:[0-9A-Fa-f]{16}")
 MINUSES = "\u2010\u2011\u2012\u2013\u2014\u2212"
 
@@ -37,19 +37,31 @@ def value_of(bits):
     return struct.unpack(">d", struct.pack(">Q", bits))[0]
 
 
+def word_of(value):
+    """NaN, Infinity or -Infinity, the words that number takes too; none for a finite value."""
+    if math.isfinite(value):
+        return ""
+    return "NaN" if math.isnan(value) else "Infinity" if value > 0 else "-Infinity"
+
+
 def decimal(value):
     """As few digits as give the same f64 when they are read again, 17 at most."""
-    return repr(value).removesuffix(".0")
+    return word_of(value) or repr(value).removesuffix(".0")
+
+
+def digits(value):
+    """17 significant digits."""
+    return word_of(value) or f"{value:.17g}"
 
 
 def number(field, word):
-    """The bits of the f64 that a word means: a decimal number, inf or nan, or bits:3FD0000000000000."""
+    """The bits of the f64 that a word means: a decimal number, Infinity or NaN, or bits:3FD0000000000000."""
     if BITS.fullmatch(word):
         return int(word[5:], 16)
     if word.startswith("bits:"):
         raise Wrong(f"{field}: {visible(word)} has not 16 hexadecimal digits behind bits:")
     if SPECIAL.fullmatch(word):
-        return 0x7FF8000000000000 if word.endswith("nan") else bits_of(float(word))
+        return 0x7FF8000000000000 if word.lower().endswith("nan") else bits_of(float(word))
     if not DECIMAL.fullmatch(word):
         raise Wrong(f"{field}: {visible(word)} is no number; {advice(word)}")
     value = float(word)
@@ -65,6 +77,8 @@ def advice(word):
         return "write a decimal point"
     if any(c in MINUSES for c in word):
         return "its minus is another character; write -"
+    if re.fullmatch(r"(?i)[+-]?(inf(inity)?|nan)", word):
+        return "write Infinity, -Infinity or NaN"
     return "write it as 0.25, -1.5e-3 or bits:3FD0000000000000"
 
 

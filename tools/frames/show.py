@@ -7,12 +7,13 @@ exec python3 "$0" "$@"
 import math
 import sys
 
-from frame import Wrong, answer, decimal, ended, lost, number, put, refusals, refused, say, value_of, visible
+from frame import Wrong, answer, decimal, digits, ended, lost, number, put, refusals, refused, say, value_of, visible
 
 USAGE = """usage: tools/frames/show.py [ORDER]
 Reads the answer lines of ./run from standard input and shows each as a table of decimal values with its counts, or its refusal in words.
   ORDER   the first order that was asked for, as 0.25 or bits:3FD0000000000000: the rows are then named by their orders
-Values have 17 significant digits, which give the same f64 when they are read again; docs/CHOOSING.md says what the counts tell.
+Values have 17 significant digits, which give the same f64 when they are read again, or are NaN, Infinity or -Infinity; docs/CHOOSING.md
+says what the counts tell. Under an answer of I with orders that are not finished a line says how many and what to do.
 A line that is no answer line is named on standard error, and the next one is shown. Status: 0 all shown, 1 a line was none or something
 failed, 2 the words of the command cannot be taken.
 """
@@ -26,7 +27,18 @@ def rows(pairs, first):
     """A line each: the order, as many digits as it needs, or the place; both parts; and whether it is finished."""
     names = [f"entry {at}" if first is None else f"order {decimal(first + at)}" for at in range(len(pairs))]
     width = max(map(len, names))
-    return [f"  {name:<{width}}  {re:>24.17g}  {im:>24.17g} i{'   not finished' if math.isnan(re) else ''}" for name, (re, im) in zip(names, pairs)]
+    return [f"  {name:<{width}}  {digits(re):>24}  {digits(im):>24} i{'   not finished' if math.isnan(re) else ''}" for name, (re, im) in zip(names, pairs)]
+
+
+def unfinished(pairs):
+    """How many entries the steps of I did not come to. These hold not-a-numbers, which no finished entry does."""
+    return sum(math.isnan(re) for re, _ in pairs)
+
+
+def open_rows(without, orders):
+    """The line below a table with rows that are not finished: how many, and what to do."""
+    todo = "ask plain if it was asked scaled, else at a modulus of 37 or less; another number of orders does not help"
+    return f"not finished: {without} of {counted(orders, 'order')}, from the lowest up; no value stands there; {todo}"
 
 
 def shown(line, first, meanings):
@@ -34,9 +46,10 @@ def shown(line, first, meanings):
     (given, zeros, terms, rungs, backward), pairs = answer(line)
     if given:
         return [refused(given, meanings)]
-    stopped = ", stopped before the lowest order" if math.isnan(pairs[0][0]) else ""
+    without = unfinished(pairs)
+    entries = counted(len(pairs), "order") + (f", {without} not finished" if without else "")
     counts = f"longest sum {counted(terms, 'term')}, {counted(rungs, 'rung')}, {counted(backward, 'backward step')}"
-    return [f"answered: {counted(len(pairs), 'order')}; {abs(zeros)} set to zero{stopped}; {counts}"] + rows(pairs, first)
+    return [f"answered: {entries}; {abs(zeros)} set to zero; {counts}"] + rows(pairs, first) + ([open_rows(without, len(pairs))] if without else [])
 
 
 def known(tool):

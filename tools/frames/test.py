@@ -30,6 +30,14 @@ WHOLE_SHOWN = [
     "  order 0.25                         1                         0 i",
     "  order 1.25                         0                         0 i",
 ]
+OPEN_ROWS = "no value stands there; ask plain if it was asked scaled, else at a modulus of 37 or less; another number of orders does not help"
+STOPPED = "00FFFF000000000000" + "7FF8000000000000" * 2 + "0" * 32
+STOPPED_SHOWN = [
+    "answered: 2 orders, 1 not finished; 1 set to zero; longest sum 0 terms, 0 rungs, 0 backward steps",
+    "  order 1                       NaN                       NaN i   not finished",
+    "  order 2                         0                         0 i",
+    f"not finished: 1 of 2 orders, from the lowest up; {OPEN_ROWS}",
+]
 tried = 0
 
 
@@ -73,6 +81,9 @@ def good_words():
         (["I", "0", "0", "1"], "0200000000000000000000003FF00000000000000000000000000000"),
         (["I", "0", "65535", "1"], "0200FFFF00000000000000003FF00000000000000000000000000000"),
         (["I", "nan", "1", "inf", "-inf"], "020000017FF80000000000007FF0000000000000FFF0000000000000"),
+        (["I", "NaN", "1", "Infinity", "-Infinity"], "020000017FF80000000000007FF0000000000000FFF0000000000000"),
+        (["I", "+NaN", "1", "+Infinity", "-NaN"], "020000017FF80000000000007FF00000000000007FF8000000000000"),
+        (["I", "-Infinity", "1", "+inf", "+nan"], "02000001FFF00000000000007FF00000000000007FF8000000000000"),
         (["I", "-nan", "1", "bits:7FF0000000000001", "bits:FFFFFFFFFFFFFFFF"], "020000017FF80000000000007FF0000000000001FFFFFFFFFFFFFFFF"),
         (["K", "5e-324", "1", "1.7976931348623157e308", "0e999"], "0100000100000000000000017FEFFFFFFFFFFFFF0000000000000000"),
         (["K", "0" * 5000 + "1", "1", "1" + "0" * 300, "0." + "0" * 5000], "010000013FF00000000000007E37E43C8800759C0000000000000000"),
@@ -82,17 +93,18 @@ def good_words():
 
 
 BAD_NUMBERS = [(word, "is no number; " + FORMS) for word in (
-    "x", "1x", "x1", "1.2.3", "1..2", ".", "+", "-", "e5", "1e", "1e+", "1e5.5", "--5"[1:] + "-", "1-2", "1+2", "0x10", "1_000", "1 000", " 1", "1 ", "1;5", "1:5", "1/2", "1'000", "infinity",
-    "INF", "NaN", "Inf", "nan1", "1e5e5", "+-1", "-+1", "bit:3FD0000000000000", "BITS:3FD0000000000000", "3FD0000000000000", "(1)", "1i", "1f", "1d0", "½", "١", "1\u00a0000", "√2", "π", "1,000,000", "1.5,5", "1,5.5", "1,5x",
+    "x", "1x", "x1", "1.2.3", "1..2", ".", "+", "-", "e5", "1e", "1e+", "1e5.5", "--5"[1:] + "-", "1-2", "1+2", "0x10", "1_000", "1 000", " 1", "1 ", "1;5", "1:5", "1/2", "1'000",
+    "infinite", "Infinity1", "infin", "nan1", "1e5e5", "+-1", "-+1", "bit:3FD0000000000000", "BITS:3FD0000000000000", "3FD0000000000000", "(1)", "1i", "1f", "1d0", "½", "١", "1\u00a0000", "√2", "π", "1,000,000", "1.5,5", "1,5.5", "1,5x",
 )]
 BAD_NUMBERS += [(word, "is no number; write a decimal point") for word in ("0,25", "-0,75", "+1,5", ",5", "1,", "1,5e3", "1,5E-3", "1,000", ",")]
 BAD_NUMBERS += [(word, "is no number; its minus is another character; write -") for word in ("\u22121.5", "\u20131", "\u20141", "1e\u22125")]
+BAD_NUMBERS += [(word, "is no number; write Infinity, -Infinity or NaN") for word in ("infinity", "INF", "Inf", "INFINITY", "+infinity", "NAN", "Nan", "+NAN")]
 BAD_NUMBERS += [(word, "has not 16 hexadecimal digits behind bits:") for word in (
     "bits:", "bits:3FD000000000000", "bits:3FD00000000000000", "bits:3FD000000000000G", "bits:3FD0 00000000000", "bits:0.25", "bits:-3FD000000000000", "bits: 3FD0000000000000")]
 BAD_NUMBERS += [(word, "is above the largest f64, 1.7976931348623157e308") for word in ("1e309", "-1e309", "1e999999999", "1.7976931348623159e308", "-17976931348623159" + "0" * 30 + "e262")]
 BAD_NUMBERS += [(word, "is below the least f64, 5e-324; write 0 if 0 is meant") for word in ("1e-324", "-1e-400", "2.4e-324", "0.1e-999999999")]
 BAD_COUNTS = [(word, "is no whole number; write 1 to 512") for word in (
-    "2.5", "2.0", "1e2", "x", "", " ", "2 ", " 2", "1,5", "0x2", "2_0", "bits:3FF0000000000000", "+", "-", "--2"[1:] + "-", "٢", "²", "inf", "nan", "1/2", "2;")]
+    "2.5", "2.0", "1e2", "x", "", " ", "2 ", " 2", "1,5", "0x2", "2_0", "bits:3FF0000000000000", "+", "-", "--2"[1:] + "-", "٢", "²", "inf", "nan", "Infinity", "NaN", "1/2", "2;")]
 BAD_COUNTS += [(word, "does not fit into a frame; write 1 to 512") for word in ("-1", "-2", "65536", "70000", "9" * 40, "9" * 5000, "-512", "1000000")]
 BAD_KINDS = ["k", "i", "J", "j", "KI", "IK", "Y", "H", "01", "1", "", " K", "K ", "KK", "0", "k0", "K\n", "Κ", "log-gamma", "K,", "\udcff"]
 
@@ -115,7 +127,7 @@ def bad_words():
         bad(["K", "0", word, "1"], f"the number of orders: {seen(word)} {text}")
     for word in BAD_KINDS:
         bad([word] + EXAMPLE[1:], f"the kind: {seen(word)} is none; write K or I")
-    for word in ("--scale", "--Scaled", "--frames", "--", "-s", "-scaled", "-x", "--scaled=1", "--help=1", "-i", "-infinity", "-nan1", "--1", "---"):
+    for word in ("--scale", "--Scaled", "--frames", "--", "-s", "-scaled", "-x", "--scaled=1", "--help=1", "-i", "-infinity", "-INF", "-Nan", "-nan1", "--Infinity", "--1", "---"):
         for place in (0, 1, 4, 6):
             bad(EXAMPLE[:place] + [word] + EXAMPLE[place:], f"{word} is no word of ask; see --help")
     fields = ["the kind", "the order", "the number of orders", "the real part"]
@@ -155,7 +167,7 @@ def drawn_words():
 def drawn_calls():
     """Any words at all: a frame and status 0, or one line and status 2."""
     drawn = random.Random(644)
-    pool = EXAMPLE + ["--frame", "-inf", "nan", "1,5", "", "I", "K", "0", "1", "512", "-0", "bits:3FF0000000000000", "--", "-", "-x", "\n", "\udc80", "\x00", "é" * 80, "9" * 5000, "1e400", "%s", "{0}"]
+    pool = EXAMPLE + ["--frame", "-inf", "nan", "-Infinity", "NaN", "1,5", "", "I", "K", "0", "1", "512", "-0", "bits:3FF0000000000000", "--", "-", "-x", "\n", "\udc80", "\x00", "é" * 80, "9" * 5000, "1e400", "%s", "{0}"]
     statuses = []
     for _ in range(5000):
         words = drawn.choice((EXAMPLE, EXAMPLE[:5], EXAMPLE[:4], EXAMPLE[:3], EXAMPLE + ["7"]))[:]
@@ -190,7 +202,7 @@ def helped():
         same(told(ask.main, words), (0, ask.USAGE, ""), words)
     for words in (["--help"], ["-h"]):
         same(told(show.main, words), (0, show.USAGE, ""), words)
-    for word in ("K|I", "ORDER", "N ", "RE", "IM", "--scaled", "--frame", "decimal", "bits:", "0 answered", "1 refused", "2 the words"):
+    for word in ("K|I", "ORDER", "N ", "RE", "IM", "--scaled", "--frame", "decimal", "bits:", "0 answered", "1 refused", "2 the words", "3 answered", "not finished", "Infinity, -Infinity or NaN"):
         same(word in ask.USAGE, True, word)
 
 
@@ -225,11 +237,21 @@ def shows():
         "  order 998.0000000000001                          0                        -0 i",
         "  order 999.0000000000001        0.33333333333333331                   -1e-305 i",
         "  order 1000.0000000000001       0.10000000000000001   4.9406564584124654e-324 i", ""]), "")
-    stopped = "00FFFF000000000000" + "7FF8000000000000" * 2 + "0" * 32
-    shown_as(stopped.encode() + b"\n", ["1"], 0, "\n".join([
-        "frame 1: answered: 2 orders; 1 set to zero, stopped before the lowest order; longest sum 0 terms, 0 rungs, 0 backward steps",
-        "  order 1                       nan                       nan i   not finished",
-        "  order 2                         0                         0 i", ""]), "")
+    shown_as(STOPPED.encode() + b"\n", ["1"], 0, "frame 1: " + "\n".join(STOPPED_SHOWN) + "\n", "")
+    low = "00FFFF000000000000" + "7FF8000000000000" * 4 + "0" * 32 + "3FF0000000000000" * 2
+    shown_as(low.encode() + b"\n" + lowest.encode() + b"\n", [], 0, "\n".join([
+        "frame 1: answered: 4 orders, 2 not finished; 1 set to zero; longest sum 0 terms, 0 rungs, 0 backward steps",
+        "  entry 0                       NaN                       NaN i   not finished",
+        "  entry 1                       NaN                       NaN i   not finished",
+        "  entry 2                         0                         0 i",
+        "  entry 3                         1                         1 i",
+        f"not finished: 2 of 4 orders, from the lowest up; {OPEN_ROWS}",
+        "frame 2: answered: 1 order; 1 set to zero; longest sum 0 terms, 0 rungs, 0 backward steps",
+        "  entry 0                         0                         0 i", ""]), "")
+    infinite = "000000000000000000" + "7FF0000000000000" + "FFF0000000000000"
+    shown_as(infinite.encode() + b"\n", ["-Infinity"], 0, "\n".join([
+        "frame 1: answered: 1 order; 0 set to zero; longest sum 0 terms, 0 rungs, 0 backward steps",
+        "  order -Infinity                  Infinity                 -Infinity i", ""]), "")
     for number, said in frame.refusals().items():
         shown_as(b"%02X" % number + b"0" * 16, [], 0, f"frame 1: refusal {number}: {said}\n", "")
     for number in (11, 12, 99, 255):
@@ -316,7 +338,7 @@ def shell(command, where):
 def runs(top, elsewhere):
     """./ask over a ./run that gives what it is told."""
     command = f"'{top}/ask' K 0.25 2 1.5 -0.75 --scaled"
-    heading = "K times e^z at z = 1.5 - 0.75 i\n"
+    heading = "K times e^z, 2 orders from 0.25, at z = 1.5 - 0.75 i\n"
     table = heading + "\n".join(WHOLE_SHOWN) + "\n"
     made_up(top, f"read -r frame; [ \"$frame\" = {EXAMPLE_FRAME} ] || exit 1; echo {WHOLE}")
     same(shell(command, elsewhere), (0, table, ""), "from another directory")
@@ -352,6 +374,38 @@ def runs(top, elsewhere):
     os.chmod(os.path.join(top, "run"), 0o644)
     os.remove(os.path.join(top, "run"))
     same(shell(command, elsewhere), (1, "", "ask: ./run cannot be started: No such file or directory\n"), "no ./run")
+
+
+def headings(top, elsewhere):
+    """What was asked stands above an answer and above a refusal, whatever was asked."""
+    for words, wanted in (
+        ("K 0.25 2 1.5 -0.75 --scaled", "K times e^z, 2 orders from 0.25, at z = 1.5 - 0.75 i"),
+        ("K 0 1 800", "K, order 0, at z = 800 + 0 i"),
+        ("I 1 2 0 -0 --scaled", "I times e^-re, 2 orders from 1, at z = 0 - 0 i"),
+        ("I 1e-3 0 -1e300 1e-300", "I, 0 orders from 0.001, at z = -1e+300 + 1e-300 i"),
+        ("K nan 1 inf -inf", "K, order NaN, at z = Infinity - Infinity i"),
+        ("K bits:FFF8000000000000 513 -Infinity bits:FFFFFFFFFFFFFFFF", "K, 513 orders from NaN, at z = -Infinity + NaN i"),
+        ("I Infinity 65535 -NaN -NaN", "I, 65535 orders from Infinity, at z = NaN + NaN i"),
+    ):
+        for given in (2, 3, 9):
+            made_up(top, f"echo 0{given}0000000000000000")
+            same(shell(f"'{top}/ask' {words}", elsewhere), (1, f"{wanted}\nrefusal {given}: {frame.refusals()[given]}\n", ""), words)
+        made_up(top, f"echo {WHOLE}")
+        status, out, err = shell(f"'{top}/ask' {words}", elsewhere)
+        same((status, out.split("\n")[:2], err), (0, [wanted, WHOLE_SHOWN[0]], ""), words)
+
+
+def not_finished(top, elsewhere):
+    """An answer of I with orders that are not finished says so below its table, and has a status of its own."""
+    command = f"'{top}/ask' I 1 2 38"
+    table = "\n".join(["I, 2 orders from 1, at z = 38 + 0 i"] + STOPPED_SHOWN) + "\n"
+    made_up(top, f"echo {STOPPED}")
+    same(shell(command, elsewhere), (3, table, ""), "not finished")
+    same(shell(command + " > /dev/full", elsewhere), (1, "", "ask: standard output cannot be written: No space left on device\n"), "not finished, and lost")
+    made_up(top, f"echo {STOPPED}; exit 1")
+    same(shell(command, elsewhere), (1, table, "ask: ./run answered, and ended with 1: something failed\n"), "not finished, and failed")
+    made_up(top, f"echo 00FFFF000000000000{32 * '0'}")
+    same(shell(f"'{top}/ask' I 370 1 38.5", elsewhere)[0], 0, "a negative count with every order finished")
 
 
 def interrupted(top, elsewhere):
@@ -411,7 +465,7 @@ def short_lists(top, elsewhere):
 def recorded():
     kinds = {number: kind for kind, number in KINDS.items()}
     meanings = frame.refusals()
-    asked = answered = refused = 0
+    asked = answered = refused = stopped = 0
     with open(os.path.join(PROGRAM, "stdin"), newline="\n", encoding="utf-8") as questions, open(os.path.join(PROGRAM, "stdout"), "rb") as answers:
         for question, line in zip(questions.read().split("\n"), answers.read().split(b"\n")):
             (number, *_), pairs = answer(line)
@@ -426,13 +480,17 @@ def recorded():
                 same(asking(kinds[kind], scaled == 1, order, count, re_part, im_part), question, question)
                 asked += 1
             if not number:
-                same((len(pairs), len(text)), (count, count + 1), question)
-                cells = [tuple(map(float, row.split(None, 2)[2].replace(" not finished", "").split("i")[0].split())) for row in text[1:]]
+                without = sum(math.isnan(part) for pair in pairs for part in pair) // 2
+                same((len(pairs), len(text)), (count, count + 2 if without else count + 1), question)
+                same(text[count + 1:], [f"not finished: {without} of {count} orders, from the lowest up; {OPEN_ROWS}"] if without else [], question)
+                same([row.endswith("not finished") for row in text[1:count + 1]], [at < without for at in range(count)], question)
+                stopped += 1 if without else 0
+                cells = [tuple(map(float, row.split(None, 2)[2].replace(" not finished", "").split("i")[0].split())) for row in text[1:count + 1]]
                 same(struct.pack(f">{2 * count}d", *(part for pair in cells for part in pair)), bytes.fromhex(line[18:].decode()), "read again: " + question)
                 answered += 1
-    if asked < 15000 or answered < 10000 or refused < 4000:
-        raise SystemExit(f"tools/frames/test.py: only {asked} asked, {answered} answered, {refused} refused")
-    return f"{asked} frames written again, {answered} answers and {refused} refusals shown"
+    if asked < 15000 or answered < 10000 or refused < 4000 or stopped < 20:
+        raise SystemExit(f"tools/frames/test.py: only {asked} asked, {answered} answered, {stopped} of them not finished, {refused} refused")
+    return f"{asked} frames written again, {answered} answers ({stopped} not finished) and {refused} refusals shown"
 
 
 def main():
@@ -451,6 +509,8 @@ def main():
         os.makedirs(elsewhere)
         copied(top)
         runs(top, elsewhere)
+        headings(top, elsewhere)
+        not_finished(top, elsewhere)
         interrupted(top, elsewhere)
         lost_output(top, elsewhere)
         short_lists(top, elsewhere)

@@ -4,6 +4,8 @@ import struct
 
 COLUMNS, ROWS = 50, 36
 CELL = 8
+# of the labels under an axis: a digit with the room beside it, and the height of a row
+DIGIT, ROW = 7, 12
 # in units of 2^-52; the tables of docs/ACCURACY.md count what is above the two that have a name
 FAR_OFF, IN_A_THOUSAND = 4096, 2**52 / 1000
 CLASSES = [4, 16, 64, 256, 1024, FAR_OFF, IN_A_THOUSAND, math.inf]
@@ -50,6 +52,16 @@ def cells(calls, across, upward, place=modulus_of):
     return colours
 
 
+def label_rows(ticks, width):
+    """The row of each label under an axis, 0 or 1: the second one where it would touch the label before it."""
+    rows, end = [], -math.inf
+    for at, label in ticks:
+        half = DIGIT * len(label) / 2
+        rows.append(0 if at * width - half > end else 1)
+        end = at * width + half if rows[-1] == 0 else end
+    return rows
+
+
 def panel(left, top, title, colours, x_ticks, y_ticks, x_name, y_name):
     width, height = COLUMNS * CELL, ROWS * CELL
     out = [f'<text x="{left + width / 2}" y="{top - 10}" text-anchor="middle" font-size="13">{title}</text>']
@@ -57,13 +69,14 @@ def panel(left, top, title, colours, x_ticks, y_ticks, x_name, y_name):
         path = "".join(f"M{left + x * CELL} {top + height - (y + 1) * CELL}h{CELL}v{CELL}h-{CELL}z" for (x, y), c in sorted(colours.items()) if c == colour)
         out.append(f'<path fill="{colour}" d="{path}"/>')
     out.append(f'<rect x="{left}" y="{top}" width="{width}" height="{height}" fill="none" stroke="#555"/>')
-    for at, label in x_ticks:
+    rows = label_rows(x_ticks, width)
+    for (at, label), row in zip(x_ticks, rows):
         x = left + at * width
-        out.append(f'<path stroke="#555" d="M{x:.1f} {top + height}v4"/><text x="{x:.1f}" y="{top + height + 16}" text-anchor="middle">{label}</text>')
+        out.append(f'<path stroke="#555" d="M{x:.1f} {top + height}v{4 + ROW * row}"/><text x="{x:.1f}" y="{top + height + 16 + ROW * row}" text-anchor="middle">{label}</text>')
     for at, label in y_ticks:
         y = top + height - at * height
         out.append(f'<path stroke="#555" d="M{left} {y:.1f}h-4"/><text x="{left - 7}" y="{y + 4:.1f}" text-anchor="end">{label}</text>')
-    out.append(f'<text x="{left + width / 2}" y="{top + height + 34}" text-anchor="middle">{x_name}</text>')
+    out.append(f'<text x="{left + width / 2}" y="{top + height + 34 + ROW * max(rows)}" text-anchor="middle">{x_name}</text>')
     out.append(f'<text x="{left - 42}" y="{top + height / 2}" text-anchor="middle" transform="rotate(-90 {left - 42} {top + height / 2})">{y_name}</text>')
     return out
 
@@ -111,7 +124,7 @@ def write_pictures(pictures):
         "docs/plots/k_climb.svg",
         "Error of plain K where e^-re underflows, n = 1",
         [(f"K unscaled, {words}", cells(pictures[f"picture_k_climb_{name}"], across, upward, real_part_of)) for name, words in (("real_axis", "im = 0"), ("off_the_axis", "|im| to 600"))],
-        [(across(re), "" if re == 1073 else str(re)) for re in (665, 701, 800, 900, 1000, 1073, 1101)],
+        [(across(re), str(re)) for re in (665, 701, 800, 900, 1000, 1073, 1101)],
         [(upward(v), str(v)) for v in range(0, 1001, 200)],
         "re; white: refused, no two neighbouring orders on scale",
     )

@@ -82,10 +82,15 @@ if [ -n "$crates" ]; then
     echo "Rust, the feature num-complex:"
     cp -r bindings/rust/num-complex bindings/rust/README.md "$outside/crate"
     rm -f "$outside/crate/num-complex/Cargo.lock"
-    featured=(cargo test --offline --quiet --manifest-path "$outside/crate/num-complex/Cargo.toml"
-        --config 'source.crates-io.replace-with="crates"' --config "source.crates.directory=\"$crates\"")
-    LICHENOAR_LIB_DIR=$outside/lib "${featured[@]}" --test conversions
-    LICHENOAR_LIB_DIR=$outside/lib "${featured[@]}" --doc complex.rs
+    # the lines that the page has for .cargo/config.toml; the folder is another where LICHENOAR_CRATES_DIR names it
+    config=$outside/crate/.cargo/config.toml
+    mkdir "$outside/crate/.cargo"
+    sed -n '/^\[source\.crates-io\]$/,/^```$/{/^```$/d;p}' bindings/rust/README.md > "$config"
+    [ -n "${LICHENOAR_CRATES_DIR:-}" ] || grep -qxF "directory = \"$crates\"" "$config" || fail "bindings/rust/README.md: Debian's folder is $crates"
+    sed -i "s|^directory = .*|directory = \"$(realpath "$crates")\"|" "$config"
+    featured() { (cd "$outside/crate/num-complex" && LICHENOAR_LIB_DIR=$outside/lib cargo test --offline --quiet "$@"); }
+    featured --test conversions
+    featured --doc complex.rs
 else
     echo "no crate num-complex here: its feature was not tried"
 fi

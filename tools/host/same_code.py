@@ -67,7 +67,10 @@ def difference(a, b):
 def main(paths):
     if len(paths) != 2:
         sys.exit(__doc__)
-    found = [Object(path).functions() for path in paths]
+    try:
+        found = [Object(path).functions() for path in paths]
+    except OSError as wrong:
+        sys.exit(f"same_code.py: {wrong.filename} cannot be read: {wrong.strerror}")
     wrong = difference(*found)
     if wrong:
         sys.exit(f"same_code.py: {paths[0]} and {paths[1]} differ: {wrong}")

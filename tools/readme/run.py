@@ -3,14 +3,29 @@
 
 In a block, indented by four or fenced by ```, a line `$ COMMAND` is a command, and the lines behind it are what it prints, on standard output and standard error
 together, trailing blanks aside. A command that ends with \\ goes on in the next line. Each is run by bash at the repository's top with a home folder of its own, which
-is removed afterwards. A command that shows nothing must end with status 0. A block with no `$ ` is not run. Ends with 1 and both texts where they differ."""
+is removed afterwards. A command that shows nothing must end with status 0. A block with no `$ ` is not run. Ends with 1 and both texts where they differ.
+
+Links to files, and files of the repository that the page names (docs/.., tools/.., and so on; * stands for any name; X.md beside the page or at the top), must be there."""
+import glob
 import os
+import re
 import subprocess
 import sys
 import tempfile
 
 TOP = os.path.abspath(os.path.join(os.path.dirname(__file__), "..", ".."))
 SECONDS = 120
+LINK = re.compile(r"\]\((?!https?:)([^)#\s]+)")
+NAMED = re.compile(r"(?<![\w./-])((?:docs|tools|bindings|crates|oracle|bench)/[\w./*-]*[\w*]|[A-Z][A-Z-]*\.md)")
+
+
+def absent(page, text):
+    """What the page links to or names, and is not there. A link is counted from the page's folder."""
+    beside = os.path.dirname(os.path.abspath(page))
+    there = lambda *paths: any(glob.glob(path) for path in paths)
+    links = [name for name in LINK.findall(text) if not there(os.path.join(beside, name))]
+    named = [name for name in NAMED.findall(LINK.sub("", text)) if not there(os.path.join(TOP, name), os.path.join(beside, name))]
+    return sorted(set(links + named))
 
 
 def blocks(lines):
@@ -71,10 +86,14 @@ def printed(command, home):
 
 def main(words):
     page = words[0] if words else os.path.join(TOP, "README.md")
-    with open(page, encoding="utf-8") as text:
-        found = [command for block in blocks(text.read().split("\n")) for command in commands(block)]
+    with open(page, encoding="utf-8") as file:
+        text = file.read()
+    found = [command for block in blocks(text.split("\n")) for command in commands(block)]
     if not found:
         sys.exit(f"run.py: {page} has no command")
+    gone = absent(page, text)
+    for name in gone:
+        print(f"run.py: {os.path.basename(page)} names {name}, which is not there")
     wrong = 0
     with tempfile.TemporaryDirectory() as home:
         for number, command, shown in found:
@@ -87,7 +106,7 @@ def main(words):
                 continue
             wrong += 1
     print(f"run.py: {len(found) - wrong} of {len(found)} commands of {os.path.basename(page)} print what it shows")
-    return 1 if wrong else 0
+    return 1 if wrong or gone else 0
 
 
 if __name__ == "__main__":

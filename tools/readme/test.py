@@ -8,7 +8,7 @@ import tempfile
 HERE = os.path.dirname(os.path.abspath(__file__))
 
 GOOD = """# A page
-Text with $ signs.
+Text with $ signs, a [link](https://none.example/gone.md), docs/SCOPE.md, (tools/readme/run.py), crates/*/specs, README.md, and target/nothing, which is built.
 
     $ echo one; echo two >&2
     one
@@ -54,6 +54,11 @@ BROKEN = (
     ("    $ no-such-command-here\n    fine\n", ["not found"]),
     ("Nothing to run.\n\n    ls\n", ["has no command"]),
     ("    output first\n    $ echo a\n    a\n", ["begins with one"]),
+    ("A [link](docs/gone) away.\n\n    $ true\n", ["PAGE.md names docs/gone, which is not there", "1 of 1 commands"]),
+    ("A [link](docs/SCOPE.md), counted from this folder.\n\n    $ true\n", ["names docs/SCOPE.md, which"]),
+    ("See docs/GONE.md.\n\n    $ true\n", ["names docs/GONE.md, which"]),
+    ("See tools/none/*.py, or `bindings/none`.\n\n    $ true\n", ["names tools/none/*.py, which", "names bindings/none, which"]),
+    ("See GONE-TOO.md for it.\n\n    $ true\n", ["names GONE-TOO.md, which"]),
 )
 
 

@@ -1,5 +1,5 @@
 -- A positive argument up to 101: 2^52 added and taken off leaves the whole number nearest to it, of two that are as near the even one. It is the argument
--- exactly where the argument is whole; and where the argument is not below it by a half, one more is the argument rounded. Assumes nothing.
+-- exactly where the argument is whole; and where the argument is less than a half above it, it is the argument rounded. Assumes nothing.
 use mathlib.Core.Path.{_≡_, refl, sym, ap, _∙_, subst}
 use Prim.Native.Nat.{ℕ, _+_, _-_, _*_, _^_, _≤_, _<_, zero-le}
 use native.Mathlib.Nat.{mul-one, mul-pos, le-of-mul-le-mul-right, sub-add-cancel}
@@ -7,17 +7,16 @@ use native.Mathlib.Omega.{arith}
 use mathlib.Core.Bool.{Bool, true, false}
 use lib.Dec.{T, lit<, lit≤}
 use lib.Ieee.{Float, binary64, fits, le, lt, eq, add, sub, round, ofBits}
-use lib.Ieee.Fits.{add-fits, sub-fits, round-fits}
+use lib.Ieee.Fits.{sub-fits, round-fits}
 use lib.Ieee.Exact.{HasValue}
 use lib.Ieee.Back.{whole-unique, round-whole}
 use lib.Ieee.Scale.{round-same}
 use lib.Ieee.Positive.{num, den, den-pos, positive, positive-finite, own-value, value→cross}
-use Rattle.laws.proofs.Order.{not-lt→le}
-use Rattle.laws.proofs.Value.{value-finite, le-values, lt-values}
+use Rattle.laws.proofs.Value.{le-values, lt-values}
 use Rattle.laws.proofs.Relative.{nonnegative-of-value, add-round, sub-round}
 use Rattle.laws.proofs.Grid.{is-plus, round-steps, Snapped, snap-right}
 use Rattle.machine.specs.Constants.{gammaLnMinimum}
-use Rattle.machine.specs.Small.{nothing, half, one}
+use Rattle.machine.specs.Small.{nothing, half}
 use Rattle.rounding.specs.Round.{roundOf, nearestWhole, Nearest}
 use Rattle.rounding.proofs.RoundFacts.{round-value, whole-value, round-is-nearest}
 use Rattle.gamma_ln.proofs.Arguments.{above-zero, equal-value, positive-sign}
@@ -67,16 +66,6 @@ plus-half w n v h =
     few : (n : ℕ) → n ≤ 101 → n * 2 + 1 ≤ 2 ^ 53
     few n h = omega arith
 
-plus-one : (w : Float) (n : ℕ) → HasValue w false n 1 → n ≤ 101 → HasValue (add binary64 w one) false (n + 1) 1
-unfolding ofBits
-plus-one w n v h =
-    subst (λ (z : Float). HasValue z false (n + 1) 1)
-    (sym (add-at w one n 1 1 1 (lit< tt) (lit< tt) v (refl, refl) ∙ ap (λ (z : ℕ). round binary64 false (z + 1) 1) (mul-one n)))
-    (round-whole binary64 false (n + 1) (few n h))
-  where
-    few : (n : ℕ) → n ≤ 101 → n + 1 ≤ 2 ^ 53
-    few n h = omega arith
-
 -- ---- 2^52 added and taken off
 abbrev grid : Float
 grid = ofBits binary64 0x4330000000000000
@@ -122,9 +111,9 @@ module _ (x : Float) (P : T (positive x)) (h : num x ≤ 101 * den x) where
           }
 
 -- ---- the whole number that x is rounded to
-is-rounded : (x y : Float) (n : ℕ) → T (fits binary64 x) → T (positive x) → T (fits binary64 y) → HasValue y false n 1 → Nearest x n → y ≡ roundOf x
-is-rounded x y n F P G v near =
-    whole-unique binary64 y (roundOf x) false n G
+is-rounded : (x : Float) (n : ℕ) → T (fits binary64 x) → T (positive x) → HasValue (nearby x) false n 1 → Nearest x n → nearby x ≡ roundOf x
+is-rounded x n F P v near =
+    whole-unique binary64 (nearby x) (roundOf x) false n (sub-fits binary64 (add binary64 x grid) grid)
     (subst (λ (z : Float). T (fits binary64 z)) (sym (round-value x false (num x) (den x) (den-pos x) (own-value x P))) (round-fits binary64 false (nearestWhole (num x) (den x)) 1))
     v (subst (λ (s : Bool). HasValue (roundOf x) s n 1) (positive-sign x P) (round-is-nearest x n F (positive-finite x P) near))
 
@@ -147,7 +136,7 @@ same-whole x n k c v =
 
 whole-both : (x : Float) (n k : ℕ) → T (fits binary64 x) → T (positive x) → Close x n → HasValue x false k 1 → nearby x ≡ roundOf x
 whole-both x n k F P c v =
-    is-rounded x (nearby x) k F P (sub-fits binary64 (add binary64 x grid) grid) (subst (λ (z : ℕ). HasValue (nearby x) false z 1) (same-whole x n k c v) (c .value)) (whole-near x k v)
+    is-rounded x k F P (subst (λ (z : ℕ). HasValue (nearby x) false z 1) (same-whole x n k c v) (c .value)) (whole-near x k v)
 
 both-or-neither : (a b : Bool) → (T a → T b) → (T b → T a) → a ≡ b
 both-or-neither true true f g = refl
@@ -194,16 +183,4 @@ module _ (x : Float) (F : T (fits binary64 x)) (P : T (positive x)) (l : T (lt x
       go {n} c =
           let a = c .above in
           let u : num x * 2 < (n * 2 + 1) * den x = lt-values x (add binary64 (nearby x) half) (num x) (den x) (n * 2 + 1) 2 (den-pos x) (lit< tt) (own-value x P) (plus-half (nearby x) n (c .value) (c .few)) t in
-          is-rounded x (nearby x) n F P (sub-fits binary64 (add binary64 x grid) grid) (c .value) (record { low = a; high = omega arith })
-
-  pub rounded-up : lt x (add binary64 (nearby x) half) ≡ false → add binary64 (nearby x) one ≡ roundOf x
-  rounded-up t = go (close x P below-seven)
-    where
-      go : {n : ℕ} → Close x n → add binary64 (nearby x) one ≡ roundOf x
-      go {n} c =
-          let v = plus-half (nearby x) n (c .value) (c .few) in
-          let b = c .below in
-          let d = den-pos x in
-          let y = add binary64 (nearby x) half in
-          let u : (n * 2 + 1) * den x ≤ num x * 2 = le-values y x (n * 2 + 1) 2 (num x) (den x) v (own-value x P) (not-lt→le x y (positive-finite x P) (value-finite y false (n * 2 + 1) 2 v) t) in
-          is-rounded x (add binary64 (nearby x) one) (n + 1) F P (add-fits binary64 (nearby x) one) (plus-one (nearby x) n (c .value) (c .few)) (record { low = omega arith; high = omega arith })
+          is-rounded x n F P (c .value) (record { low = a; high = omega arith })

@@ -17,6 +17,7 @@ use gamma_ln_tables::tables::whole_value;
 use logarithm::ln::ln;
 use machine::constants::Machine;
 use machine::constants::not_a_number;
+use rounding::round::round;
 
 // The value, by how many factors the argument was shifted, and how many terms of the series were summed.
 pub struct Computed {
@@ -92,7 +93,8 @@ fn tabulated(x: f64) -> f64
     whole_value(x as u32)
 }
 
-// The argument rounded, a half up: one more than the even whole number where that stands a half below.
+// The argument rounded, a half up: the even whole number, but for four arguments, 0.5, 2.5, 4.5 and 6.5. Those are left to `round`, so that the
+// compiler makes a branch of the test, and not a selection that every shift waits for.
 fn rounded(x: f64) -> f64
     requires { ⌜ T (positive x) × T (lt x gammaLnMinimum) ⌝ }
     ensures { λ r. ⌜ r ≡ roundOf x ⌝ }
@@ -101,7 +103,7 @@ fn rounded(x: f64) -> f64
     if x < whole + 0.5 {
         return whole;
     }
-    whole + 1.0
+    round(x)
 }
 
 // Where the series is summed, and by how much the argument is raised to get there: to 7 or near it, from 7 on not at all. Rounded to the nearest

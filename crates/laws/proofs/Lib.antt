@@ -14,6 +14,7 @@ pub mod Relative
 pub mod Run
 pub mod Seam
 pub mod Sign
+pub mod Unit
 pub mod Value
 pub mod Whole
 pub mod Zero

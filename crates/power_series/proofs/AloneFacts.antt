@@ -14,6 +14,7 @@ use lib.Ieee.Scale.{finite}
 use borrow.Author.Tests.{lt-ltb}
 use Rattle.laws.specs.Operators.{_⊕_}
 use Rattle.laws.proofs.Run.{run-on, run-out}
+use Rattle.laws.proofs.Unit.{mul-one-float}
 use Rattle.laws.proofs.Zero.{zeroOf, zero-is}
 use Rattle.machine.specs.Constants.{exponentLimit, approximationLimit}
 use Rattle.machine.specs.Small.{nothing, half, one}
@@ -36,7 +37,7 @@ use Rattle.series_step.specs.Step.{stepIf, stepOf}
 use Rattle.power_series.specs.Visit.{Visited, startWalk, isStopped, withEntry, nextWalk, walkOf, visitedOf, visitOf}
 use Rattle.power_series.specs.shapes.Alone.{Something, Plain}
 use Rattle.power_series.proofs.WalkFacts.{stopping, stepping}
-use Rattle.power_series.proofs.UnitFacts.{mul-one-float, mul-zero-float, sub-zero-float, zero-add-float}
+use Rattle.power_series.proofs.UnitFacts.{mul-zero-float, sub-zero-float, zero-add-float}
 
 -- ---- values at the zeros
 order-zero : (s : Bool) → orderAt (zeroOf s) 0 ≡ zeroOf false

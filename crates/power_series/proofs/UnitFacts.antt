@@ -1,46 +1,23 @@
--- Sums with a zero and products with 1 and with a zero: which of them give the other operand back, and which a zero. General: for any f64.
+-- Sums with a zero and products with a zero: which of them give the other operand back, and which a zero. General: for any f64.
 -- Assumes nothing.
 use mathlib.Core.Path.{_≡_, refl, sym, ap, _∙_}
 use mathlib.Core.Bool.{Bool, true, false, true≢false}
-use Prim.Native.Nat.{ℕ, zero, suc, _+_, _*_, _^_, _≤_, _<_}
-use native.Mathlib.Nat.{mul-pos, mul-one, zero-mul, mul-zero, lt-of-lt-of-le, mul-lt-mul-of-pos-right, le-of-eq, le-trans, zero-lt-suc}
-use lib.Pow.{pow-pos, pow-add, pow-mono}
+use Prim.Native.Nat.{ℕ, zero, suc, _*_, _<_}
+use native.Mathlib.Nat.{mul-pos, mul-one, zero-mul, mul-zero, zero-lt-suc}
 use native.Mathlib.Omega.{arith}
 use lib.IntN.{ℤ}
 use lib.Dec.{T, lit<}
 use lib.Ieee.{Float, nan, inf, fin, binary64, ofBits, up, down, unlike, round, sum, fits, neg, add, sub, mul, eq}
-use lib.Ieee.Exact.{round-exact}
-use lib.Ieee.Fits.{up-pos, down-pos, round-fits}
+use lib.Ieee.Fits.{up-pos, down-pos}
 use lib.Ieee.Scale.{finite}
 use borrow.Author.Tests.{lt-ltb, le-ltb}
 use Rattle.laws.proofs.Order.{round-zero}
-use Rattle.laws.proofs.Power.{unique, digits}
+use Rattle.laws.proofs.Power.{unique}
 use Rattle.laws.proofs.Zero.{zeroOf, zero-fits}
 use Rattle.laws.proofs.Sign.{add-comm-float}
-use Rattle.machine.specs.Small.{nothing, one}
+use Rattle.laws.proofs.Unit.{own-round}
+use Rattle.machine.specs.Small.{nothing}
 use Rattle.power_series.specs.shapes.Alone.{Something}
-
--- a value rounds to itself
-own-round : (s : Bool) (m : ℕ) (e : ℤ) → T (fits binary64 (fin s m e)) → round binary64 s (m * up e) (down e) ≡ fin s m e
-own-round s m e F =
-    let D = digits (fin s m e) F tt in
-    let u : D .q * 2 ^ D .j < 2 ^ (1074 + 1024) =
-    lt-of-lt-of-le (mul-lt-mul-of-pos-right (D .few) (pow-pos (D .j))) (le-trans (le-of-eq (sym (pow-add 2 53 (D .j)))) (pow-mono (top (D .j) (D .low)))) in
-    unique binary64 (round binary64 s (m * up e) (down e)) (fin s m e) s (m * up e) (down e) (m * up e) (down e) (down-pos e) (down-pos e) (round-fits binary64 s (m * up e) (down e)) F
-    (round-exact binary64 s (m * up e) (down e) (D .q) (D .j) (down-pos e) (D .few) u (D .value .1)) (refl, refl) refl
-  where
-    top : (j : ℕ) → j < 2046 → 53 + j ≤ 1074 + 1024
-    top j h = omega arith
-
-like : (s : Bool) → unlike s false ≡ s
-like true = refl
-like false = refl
-
-pub mul-one-float : (x : Float) → T (fits binary64 x) → mul binary64 x one ≡ x
-unfolding mul ofBits
-mul-one-float nan F = refl
-mul-one-float (inf s) F = ap inf (like s)
-mul-one-float (fin s m e) F = rw (like s, mul-one (m * up e), mul-one (down e)) (own-round s m e F)
 
 pub mul-zero-float : (x : Float) (t : Bool) → T (finite x) → (s : Bool) × (mul binary64 x (zeroOf t) ≡ zeroOf s)
 unfolding mul

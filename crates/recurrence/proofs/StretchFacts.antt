@@ -13,7 +13,7 @@ use Rattle.recurrence.specs.State.{reciprocalOf, limitOf}
 use Rattle.recurrence.specs.Rung.{factorOf, nextOf, exceeds, passes, rungOf}
 use Rattle.recurrence.specs.Climb.{climbFrom}
 use Rattle.recurrence.specs.shapes.Held.{notHeld, heldOf}
-use Rattle.recurrence.specs.shapes.Course.{Belongs, Stays}
+use Rattle.recurrence.specs.shapes.Course.{Stays}
 use Rattle.recurrence.specs.shapes.Stretch.{Partway}
 use Rattle.recurrence.specs.declared.state.Climb.{Climb}
 use Rattle.recurrence.specs.declared.state.Rung.{Rung}
@@ -30,7 +30,7 @@ held true e = refl
 held false e = absurd (true≢false e)
 
 -- a value that was held is the next one, and is not above the limit
-held-value : (limit : Float) (next : Complex) (a : Held) → a ≡ heldOf limit next → not (a .kept) ≡ false → (a .value ≡ next) × (exceeds limit next ≡ false)
+pub held-value : (limit : Float) (next : Complex) (a : Held) → a ≡ heldOf limit next → not (a .kept) ≡ false → (a .value ≡ next) × (exceeds limit next ≡ false)
 unfolding heldOf
 held-value limit next a e k = go (exceeds limit next) refl
   where
@@ -150,33 +150,39 @@ module _ (twoOverZ : Complex) (baseOrder : Float) where
       let l : c .rungs - start .rungs ≡ to - from = omega arith in
       p .climbed ∙ ap (λ (k : ℕ). climbFrom twoOverZ baseOrder from k start) l
 
--- ---- a turn of three rungs: one rung of it, two, three
+-- ---- a turn of four rungs: one rung of it, two, three, four
 module _ (g : Course) (start : Climb) (from : ℕ) where
   abbrev pub Turning : ℕ → Climb → Type 0
-  Turning i c = Standing (g .«two_over_z») (g .«base_order») from (from + 3) start i c
+  Turning i c = Standing (g .«two_over_z») (g .«base_order») from (from + 4) start i c
 
   abbrev pub Next : ℕ → Complex → Complex → Held → Type 0
   Next i older newer a = a ≡ heldOf (g .most) (nextOf (factorOf (g .«two_over_z») (g .«base_order») i) older newer)
 
   pub turn-start : Turning from start
-  turn-start = standing-start (g .«two_over_z») (g .«base_order») from (from + 3) start
+  turn-start = standing-start (g .«two_over_z») (g .«base_order») from (from + 4) start
 
-  module _ (b : Belongs g (start .state)) where
+  module _ (b : g .most ≡ limitOf (start .state)) where
     pub turn-one : (a₁ : Held) → not (a₁ .kept) ≡ false → Next from (start .older) (start .newer) a₁
         → Turning (from + 1) (record { older = start .newer; newer = a₁ .value; state = start .state; rungs = start .rungs + 1 })
-    turn-one a₁ k₁ e₁ = standing-held (g .«two_over_z») (g .«base_order») (from + 1) (start .rungs + 1) a₁ refl refl (omega arith) (b .most) e₁ k₁ turn-start
+    turn-one a₁ k₁ e₁ = standing-held (g .«two_over_z») (g .«base_order») (from + 1) (start .rungs + 1) a₁ refl refl (omega arith) b e₁ k₁ turn-start
 
     pub turn-two : (a₁ a₂ : Held) → not (a₁ .kept) ≡ false → Next from (start .older) (start .newer) a₁ → not (a₂ .kept) ≡ false → Next (from + 1) (start .newer) (a₁ .value) a₂
         → Turning (from + 2) (record { older = a₁ .value; newer = a₂ .value; state = start .state; rungs = start .rungs + 2 })
-    turn-two a₁ a₂ k₁ e₁ k₂ e₂ = standing-held (g .«two_over_z») (g .«base_order») (from + 2) (start .rungs + 2) a₂ (omega arith) (omega arith) (omega arith) (b .most) e₂ k₂ (turn-one a₁ k₁ e₁)
+    turn-two a₁ a₂ k₁ e₁ k₂ e₂ = standing-held (g .«two_over_z») (g .«base_order») (from + 2) (start .rungs + 2) a₂ (omega arith) (omega arith) (omega arith) b e₂ k₂ (turn-one a₁ k₁ e₁)
 
     pub turn-three : (a₁ a₂ a₃ : Held) → not (a₁ .kept) ≡ false → Next from (start .older) (start .newer) a₁ → not (a₂ .kept) ≡ false → Next (from + 1) (start .newer) (a₁ .value) a₂
         → not (a₃ .kept) ≡ false → Next (from + 2) (a₁ .value) (a₂ .value) a₃
         → Turning (from + 3) (record { older = a₂ .value; newer = a₃ .value; state = start .state; rungs = start .rungs + 3 })
-    turn-three a₁ a₂ a₃ k₁ e₁ k₂ e₂ k₃ e₃ = standing-held (g .«two_over_z») (g .«base_order») (from + 3) (start .rungs + 3) a₃ (omega arith) (omega arith) (omega arith) (b .most) e₃ k₃ (turn-two a₁ a₂ k₁ e₁ k₂ e₂)
+    turn-three a₁ a₂ a₃ k₁ e₁ k₂ e₂ k₃ e₃ = standing-held (g .«two_over_z») (g .«base_order») (from + 3) (start .rungs + 3) a₃ (omega arith) (omega arith) (omega arith) b e₃ k₃ (turn-two a₁ a₂ k₁ e₁ k₂ e₂)
+
+    pub turn-four : (a₁ a₂ a₃ a₄ : Held) → not (a₁ .kept) ≡ false → Next from (start .older) (start .newer) a₁ → not (a₂ .kept) ≡ false → Next (from + 1) (start .newer) (a₁ .value) a₂
+        → not (a₃ .kept) ≡ false → Next (from + 2) (a₁ .value) (a₂ .value) a₃ → not (a₄ .kept) ≡ false → Next (from + 3) (a₂ .value) (a₃ .value) a₄
+        → Turning (from + 4) (record { older = a₃ .value; newer = a₄ .value; state = start .state; rungs = start .rungs + 4 })
+    turn-four a₁ a₂ a₃ a₄ k₁ e₁ k₂ e₂ k₃ e₃ k₄ e₄ =
+        standing-held (g .«two_over_z») (g .«base_order») (from + 4) (start .rungs + 4) a₄ (omega arith) (omega arith) (omega arith) b e₄ k₄ (turn-three a₁ a₂ a₃ k₁ e₁ k₂ e₂ k₃ e₃)
 
   -- what a turn gives back
-  pub turn-ends : {i : ℕ} {c : Climb} {whole : Bool} (t : Turn) → t ≡ record { climb = c; whole = whole } → c .state ≡ start .state → (whole ≡ true → c .rungs ≡ start .rungs + 3) → Turning i c
-      → Partway (g .«two_over_z») (g .«base_order») from (from + 3) start (t .climb) × Stays start t
+  pub turn-ends : {i : ℕ} {c : Climb} {whole : Bool} (t : Turn) → t ≡ record { climb = c; whole = whole } → c .state ≡ start .state → (whole ≡ true → c .rungs ≡ start .rungs + 4) → Turning i c
+      → Partway (g .«two_over_z») (g .«base_order») from (from + 4) start (t .climb) × Stays start t
   turn-ends {i} {c} {whole} t e p q s =
-      subst (λ (r : Turn). Partway (g .«two_over_z») (g .«base_order») from (from + 3) start (r .climb) × Stays start r) (sym e) (s .part, record { state = p; three = q })
+      subst (λ (r : Turn). Partway (g .«two_over_z») (g .«base_order») from (from + 4) start (r .climb) × Stays start r) (sym e) (s .part, record { state = p; four = q })

@@ -3,7 +3,8 @@
 ghost use mathlib.Core.Path.{_≡_};
 ghost use Prim.Native.Nat.{_+_, _-_, _<_, _≤_, _^_};
 ghost use Rattle.recurrence.specs.Climb.{climbFrom};
-ghost use Rattle.recurrence.specs.shapes.Course.{Belongs, Suits, Stays};
+ghost use Rattle.recurrence.specs.State.{limitOf};
+ghost use Rattle.recurrence.specs.shapes.Course.{Suits, Stays};
 ghost use Rattle.recurrence.specs.shapes.Stretch.{Partway};
 use crate::course::Course;
 use crate::course::Turn;
@@ -14,16 +15,15 @@ use crate::rung::rung;
 use crate::state::Climb;
 use crate::state::limit;
 use crate::state::reached;
-use crate::state::reciprocal;
 use complex::number::Complex;
 
-// Three rungs on which the state stays, or those of them before one that may move. The first factor's real part is handed in.
-fn three_rungs(g: Course, p: f64, i: u32, start: Climb) -> Turn
+// Four rungs on which the state stays, or those of them before one that may move. The first factor's real part is handed in.
+fn four_rungs(g: Course, p: f64, i: u32, start: Climb) -> Turn
     requires { ⌜ Suits g p i
-        × Belongs g (start .state)
-        × (i + 3 < 2 ^ 32)
-        × (start .rungs + 3 < 2 ^ 32) ⌝ }
-    ensures { λ r. ⌜ Partway (g .«two_over_z») (g .«base_order») i (i + 3) start (r .climb) × Stays start r ⌝ }
+        × (g .most ≡ limitOf (start .state))
+        × (i + 4 < 2 ^ 32)
+        × (start .rungs + 4 < 2 ^ 32) ⌝ }
+    ensures { λ r. ⌜ Partway (g .«two_over_z») (g .«base_order») i (i + 4) start (r .climb) × Stays start r ⌝ }
 {
     let state = start.state;
     let older = start.older;
@@ -40,18 +40,24 @@ fn three_rungs(g: Course, p: f64, i: u32, start: Climb) -> Turn
     if !b.kept {
         return stopped(newer, first, state, start.rungs + 1);
     }
+    let s = factor_re(g.two_over_z, g.base_order, i + 3);
     let c = next_held(g.most, r, g.two_over_z, g.base_order, i + 2, first, second);
     let third = c.value;
     if !c.kept {
         return stopped(first, second, state, start.rungs + 2);
     }
+    let d = next_held(g.most, s, g.two_over_z, g.base_order, i + 3, second, third);
+    let fourth = d.value;
+    if !d.kept {
+        return stopped(second, third, state, start.rungs + 3);
+    }
     Turn {
-        climb: reached(second, third, state, start.rungs + 3),
+        climb: reached(third, fourth, state, start.rungs + 4),
         whole: true,
     }
 }
 
-// Rungs on which the state stays, three a turn: it stops before one that may move, and where less than three are left.
+// Rungs on which the state stays, four a turn: it stops before one that may move, and where less than four are left.
 fn stretch(two_over_z: Complex, base_order: f64, from: u32, to: u32, start: Climb) -> Climb
     requires { ⌜ (from ≤ to) × (start .rungs + (to - from) < 2 ^ 32) ⌝ }
     ensures { λ r. ⌜ Partway «two_over_z» «base_order» from to start r ⌝ }
@@ -61,21 +67,20 @@ fn stretch(two_over_z: Complex, base_order: f64, from: u32, to: u32, start: Clim
         two_over_z,
         base_order,
         most: limit(state),
-        back: reciprocal(state),
     };
     let mut c = start;
     let mut i = from;
     while i < to {
         let p = factor_re(two_over_z, base_order, i);
-        if to - i < 3 {
+        if to - i < 4 {
             return c;
         }
-        let t = three_rungs(g, p, i, c);
+        let t = four_rungs(g, p, i, c);
         c = t.climb;
         if !t.whole {
             return c;
         }
-        i += 3;
+        i += 4;
     }
     c
 }

@@ -5,6 +5,7 @@ pub mod course;
 pub mod fill;
 pub mod first;
 pub mod held;
+pub mod off_scale;
 pub mod rung;
 pub mod search;
 pub mod state;

@@ -6,7 +6,7 @@ use Prim.Native.Nat.{ℕ, _+_, _-_, _≤_, _<_}
 use native.Mathlib.Omega.{arith}
 use lib.Dec.{T}
 use lib.Ieee.{Float, binary64, ofBits, lt}
-use Rattle.recurrence.specs.State.{reciprocalOf, limitOf}
+use Rattle.recurrence.specs.State.{limitOf}
 use Rattle.recurrence.specs.shapes.Stretch.{Partway}
 use Rattle.recurrence.proofs.LimitFacts.{limit-positive}
 use Rattle.recurrence.proofs.StretchFacts.{held, partway-start, partway-again}
@@ -27,9 +27,6 @@ abbrev μ-loop : tie.MeasureT-loop
 limit-requires : tie.Need-limit-requires Inv-loop μ-loop
 limit-requires c κs = search needs
 
-reciprocal-requires : tie.Need-reciprocal-requires Inv-loop μ-loop
-reciprocal-requires c κs = search needs
-
 loop-holds : tie.Need-loop-holds Inv-loop μ-loop
 loop-holds c = (omega arith, omega arith, omega arith, refl, partway-start _ _ _ _ _)
 
@@ -42,16 +39,16 @@ sub-if1 c = omega arith
 returns : tie.Need-returns Inv-loop μ-loop
 returns c = c .before .before .before .loop .inv .4
 
-three-rungs-requires : tie.Need-three-rungs-requires Inv-loop μ-loop
-three-rungs-requires c κs =
+four-rungs-requires : tie.Need-four-rungs-requires Inv-loop μ-loop
+four-rungs-requires c κs =
     let f = c .before in
     let l = f .before .before in
     let b = l .before in
     let v = l .loop .inv in
-    let p = b .before .before .pre in
+    let p = b .before .pre in
     let t = c .if1 .left in (
-      record { above = subst (λ (x : Float). T (lt (ofBits binary64 0) x)) (sym (b .before .limit .ensures)) (limit-positive _); ahead = f .factor-re .ensures },
-      record { most = b .before .limit .ensures ∙ ap limitOf (sym (v .3)); back = b .reciprocal .ensures ∙ ap reciprocalOf (sym (v .3)) },
+      record { above = subst (λ (x : Float). T (lt (ofBits binary64 0) x)) (sym (b .limit .ensures)) (limit-positive _); ahead = f .factor-re .ensures },
+      b .limit .ensures ∙ ap limitOf (sym (v .3)),
       omega arith,
       omega arith,
     )
@@ -63,7 +60,7 @@ returns-2 c =
     let l = e .before .before .before in
     let v = l .loop .inv in
     let t = e .if1 .left in
-    partway-again _ _ (l .loop .i) (v .1) (omega arith) (v .4) (r .three-rungs .ensures .0)
+    partway-again _ _ (l .loop .i) (v .1) (omega arith) (v .4) (r .four-rungs .ensures .0)
 
 add-i : tie.Need-add-i Inv-loop μ-loop
 add-i c = let e = c .before .before .before .before in let t = e .if1 .left in let v = e .before .before .before .loop .inv in omega arith
@@ -78,9 +75,9 @@ loop-again c =
     let l = e .before .before .before in
     let v = l .loop .inv in
     let t = e .if1 .left in
-    let q = r .three-rungs .ensures .1 in
-    let n = q .three (held (r .three-rungs .result .whole) (c .if2 .left)) in
-    (omega arith, omega arith, omega arith, q .state ∙ v .3, partway-again _ _ (l .loop .i) (v .1) (omega arith) (v .4) (r .three-rungs .ensures .0))
+    let q = r .four-rungs .ensures .1 in
+    let n = q .four (held (r .four-rungs .result .whole) (c .if2 .left)) in
+    (omega arith, omega arith, omega arith, q .state ∙ v .3, partway-again _ _ (l .loop .i) (v .1) (omega arith) (v .4) (r .four-rungs .ensures .0))
 
 returns-3 : tie.Need-returns-3 Inv-loop μ-loop
 returns-3 c = c .before .loop .inv .4
@@ -92,12 +89,11 @@ stretch-spec =
     Inv-loop
     μ-loop
     limit-requires
-    reciprocal-requires
     loop-holds
     factor-re-requires
     sub-if1
     returns
-    three-rungs-requires
+    four-rungs-requires
     returns-2
     add-i
     loop-less

@@ -5,6 +5,7 @@ use native.Mathlib.Omega.{arith}
 use lib.ListN.{length}
 use Rattle.recurrence.specs.shapes.Stretch.{PartFilled}
 use Rattle.recurrence.proofs.FillFacts.{filled-start, filled-again, filled-length, filled-whole}
+use Rattle.recurrence.proofs.OffScaleFacts.{same-spreads}
 use Rattle.recurrence.proofs.fill.fill.Statement.{statement}
 use Rattle.recurrence.proofs.fill.fill.Tie as tie
 
@@ -16,24 +17,32 @@ rest from n a l m e g h = omega arith
 room : (from n a l m k : ℕ) → a ≡ n * 2 → l ≡ m → a ≤ m → k ≤ from + n + (l - a) / 2 - (from + n) → a + k * 2 ≤ m
 room from n a l m k e g h i = omega arith
 
--- the rungs are counted from a, then from b, up to c
-cells : (n m a b c : ℕ) → n ≡ b - a → m ≡ n * 2 → a ≤ b → b ≤ c → m + (c - b) * 2 ≡ 2 * (c - a)
-cells n m a b c e f g h = omega arith
+-- k more rungs than n, and their cells
+cells : (n m k : ℕ) → m ≡ n * 2 → m + k * 2 ≡ 2 * (n + k)
+cells n m k e = omega arith
+
+-- rungs are counted from a to b, then to c
+counted : (n a b c : ℕ) → n ≡ b - a → a ≤ b → b ≤ c → n + (c - b) ≡ c - a
+counted n a b c e g h = omega arith
+
+-- what is left is less
+less : (l n a b c : ℕ) → a ≡ n * 2 → b < c → a + (c - b) * 2 ≤ l → l - 2 * (n + (c - b)) < l - a
+less l n a b c e h g = omega arith
 
 abbrev Inv-loop : tie.InvT-loop
-Inv-loop two-over-z base-order from start out₀ c₀ climbed₀ at₀ out c climbed at =
-    (climbed ≡ c .rungs - start .rungs)
-    × (start .rungs ≤ c .rungs)
+Inv-loop two-over-z base-order from out₀ c₀ climbed₀ at₀ out c climbed at =
+    (climbed ≡ c .rungs - c₀ .rungs)
+    × (c₀ .rungs ≤ c .rungs)
     × (at ≡ climbed * 2)
     × (at ≤ length out₀)
     × (length out ≡ length out₀)
-    × PartFilled two-over-z base-order from (from + length out₀ / 2) start 0 out₀ c out
+    × PartFilled two-over-z base-order from (from + length out₀ / 2) c₀ 0 out₀ c out
 
 abbrev μ-loop : tie.MeasureT-loop
-μ-loop two-over-z base-order from start out₀ c₀ climbed₀ at₀ out c climbed at = length out₀ - at
+μ-loop two-over-z base-order from out₀ c₀ climbed₀ at₀ out c climbed at = length out₀ - at
 
 loop-holds : tie.Need-loop-holds Inv-loop μ-loop
-loop-holds c = (omega arith, omega arith, omega arith, omega arith, refl, filled-start _ _ _ _ _ _ _ (omega arith))
+loop-holds c = (omega arith, omega arith, omega arith, omega arith, refl, filled-start _ _ same-spreads _ _ _ _ _ (omega arith))
 
 add-onward : tie.Need-add-onward Inv-loop μ-loop
 add-onward c =
@@ -57,6 +66,16 @@ sub-climbed c =
     let n = o .onward .ensures .0 .part .counted in
     omega arith
 
+add-climbed : tie.Need-add-climbed Inv-loop μ-loop
+add-climbed c =
+    let o = c .before .before .before .before in
+    let l = o .before .before .before in
+    let p = l .before .before .pre in
+    let v = l .loop .inv in
+    let f = o .onward .ensures .0 .part in
+    let q = room _ _ _ _ _ _ (v .2) (v .4) (v .3) (f .inside) in
+    omega arith
+
 cast-at : tie.Need-cast-at Inv-loop μ-loop
 cast-at c =
     let o = c .before .before .before .before in
@@ -65,7 +84,7 @@ cast-at c =
     let v = l .loop .inv in
     let f = o .onward .ensures .0 .part in
     let q = room _ _ _ _ _ _ (v .2) (v .4) (v .3) (f .inside) in
-    let z = cells _ _ _ _ _ (v .0) (v .2) (v .1) (f .counted) in
+    let z = cells (l .loop .climbed) (l .loop .at) (o .onward .result .rungs - l .loop .c .rungs) (v .2) in
     omega arith
 
 mul-at : tie.Need-mul-at Inv-loop μ-loop
@@ -76,7 +95,7 @@ mul-at c =
     let v = l .loop .inv in
     let f = o .onward .ensures .0 .part in
     let q = room _ _ _ _ _ _ (v .2) (v .4) (v .3) (f .inside) in
-    let z = cells _ _ _ _ _ (v .0) (v .2) (v .1) (f .counted) in
+    let z = cells (l .loop .climbed) (l .loop .at) (o .onward .result .rungs - l .loop .c .rungs) (v .2) in
     omega arith
 
 loop-less : tie.Need-loop-less Inv-loop μ-loop
@@ -84,11 +103,7 @@ loop-less c =
     let o = c .before .before .before .before in
     let l = o .before .before .before in
     let v = l .loop .inv in
-    let f = o .onward .ensures .0 .part in
-    let q = room _ _ _ _ _ _ (v .2) (v .4) (v .3) (f .inside) in
-    let z = cells _ _ _ _ _ (v .0) (v .2) (v .1) (f .counted) in
-    let t = o .onward .ensures .1 in
-    omega arith
+    less _ _ _ _ _ (v .2) (o .onward .ensures .1) (room _ _ _ _ _ _ (v .2) (v .4) (v .3) (o .onward .ensures .0 .part .inside))
 
 loop-again : tie.Need-loop-again Inv-loop μ-loop
 loop-again c =
@@ -99,13 +114,13 @@ loop-again c =
     let f = o .onward .ensures .0 in
     let n = f .part .counted in
     let q = room _ _ _ _ _ _ (v .2) (v .4) (v .3) (f .part .inside) in
-    let z = cells _ _ _ _ _ (v .0) (v .2) (v .1) n in (
-      refl,
+    let z = cells (l .loop .climbed) (l .loop .at) (o .onward .result .rungs - l .loop .c .rungs) (v .2) in (
+      counted _ _ _ _ (v .0) (v .1) n,
       omega arith,
       omega arith,
       subst (λ (k : ℕ). k ≤ length (a .out .now)) z q,
       filled-length _ _ f ∙ v .4,
-      filled-again _ _ (a .from + l .loop .climbed) (l .loop .at) (ap (λ (k : ℕ). a .from + k) (v .0)) (v .2 ∙ none (l .loop .climbed) ∙ ap (λ (k : ℕ). 0 + k * 2) (v .0)) (rest _ _ _ _ _ (v .2) (v .4) (v .3)) (v .5) f,
+      filled-again _ _ same-spreads (a .from + l .loop .climbed) (l .loop .at) (ap (λ (k : ℕ). a .from + k) (v .0)) (v .2 ∙ none (l .loop .climbed) ∙ ap (λ (k : ℕ). 0 + k * 2) (v .0)) (rest _ _ _ _ _ (v .2) (v .4) (v .3)) (v .5) f,
     )
   where
     none : (n : ℕ) → n * 2 ≡ 0 + n * 2
@@ -130,6 +145,7 @@ fill-spec =
     add-onward
     onward-requires
     sub-climbed
+    add-climbed
     cast-at
     mul-at
     loop-less

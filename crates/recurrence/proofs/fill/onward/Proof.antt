@@ -6,6 +6,7 @@ use native.Mathlib.Omega.{arith}
 use Rattle.recurrence.specs.declared.state.Rung.{Rung}
 use Rattle.recurrence.proofs.ClimbFacts.{rung-counted}
 use Rattle.recurrence.proofs.FillFacts.{writing-rung, filled-length}
+use Rattle.recurrence.proofs.OffScaleFacts.{same-spreads}
 use Rattle.recurrence.proofs.fill.onward.Statement.{statement}
 use Rattle.recurrence.proofs.fill.onward.Tie as tie
 
@@ -22,30 +23,30 @@ inside from place k m h = omega arith
 fits : (a l m : ℕ) → l ≡ m → a < m → a < l
 fits a l m e h = omega arith
 
-stretch-requires : tie.Need-stretch-requires
-stretch-requires c κs = search needs
+entries-requires : tie.Need-entries-requires
+entries-requires c κs = search needs
 
 sub-climbed : tie.Need-sub-climbed
-sub-climbed c = let s = c .before .before .before .before in let m = s .stretch .ensures .part .counted in omega arith
+sub-climbed c = let s = c .before .before .before .before in let m = s .entries .ensures .part .counted in omega arith
 
 cast-at : tie.Need-cast-at
-cast-at c = let s = c .before .before .before .before in let m = s .stretch .ensures .part .inside in omega arith
+cast-at c = let s = c .before .before .before .before in let m = s .entries .ensures .part .inside in omega arith
 
 mul-at : tie.Need-mul-at
-mul-at c = let s = c .before .before .before .before in let m = s .stretch .ensures .part .inside in omega arith
+mul-at c = let s = c .before .before .before .before in let m = s .entries .ensures .part .inside in omega arith
 
 add-at : tie.Need-add-at
-add-at c = let s = c .before .before .before .before in let m = s .stretch .ensures .part .inside in omega arith
+add-at c = let s = c .before .before .before .before in let m = s .entries .ensures .part .inside in omega arith
 
 add-rung : tie.Need-add-rung
-add-rung c = let s = c .before .before .before .before .before in let m = s .stretch .ensures .part .inside in omega arith
+add-rung c = let s = c .before .before .before .before .before in let m = s .entries .ensures .part .inside in omega arith
 
 rung-requires : tie.Need-rung-requires
 rung-requires c κs =
     let s = c .before .before .before .before .before in
-    let m = s .stretch .ensures .part .inside in
-    let n = s .stretch .ensures .part .counted in
-    let l = filled-length _ _ (s .stretch .ensures) in
+    let m = s .entries .ensures .part .inside in
+    let n = s .entries .ensures .part .counted in
+    let l = filled-length _ _ (s .entries .ensures) in
     omega arith
 
 put-requires : tie.Need-put-requires
@@ -53,7 +54,7 @@ put-requires c κs =
     let t = c .before .before .before in
     let s = t .before .before .before .before .before in
     let p = s .before .before .before .pre in
-    let l = filled-length _ _ (s .stretch .ensures) in
+    let l = filled-length _ _ (s .entries .ensures) in
     let h = even _ _ _ _ (t .if1 .taken) l (p .0) (p .2) in
     fits _ _ _ l h
 
@@ -65,9 +66,9 @@ same-length c =
     let s = t .before .before .before .before .before in
     let p = s .before .before .before .pre in
     let q = t .if1 .taken in
-    let f = s .stretch .ensures in
+    let f = s .entries .ensures in
     let h = even _ _ _ _ q (filled-length _ _ f) (p .0) (p .2) in
-    filled-length _ _ (writing-rung _ _ _ _ _ (r .rung .result) refl refl (inside _ _ _ _ h) h (r .rung .ensures) (u .put .ensures) (record { index = refl; reached = twice _ _; filled = f }) .filled)
+    filled-length _ _ (writing-rung _ _ same-spreads _ _ _ (r .rung .result) (r .rung .result .entry) refl refl (inside _ _ _ _ h) h (r .rung .ensures) refl (u .put .ensures) (record { index = refl; reached = twice _ _; filled = f }) .filled)
 
 returns : tie.Need-returns
 returns c =
@@ -77,19 +78,19 @@ returns c =
     let s = t .before .before .before .before .before in
     let p = s .before .before .before .pre in
     let q = t .if1 .taken in
-    let f = s .stretch .ensures in
+    let f = s .entries .ensures in
     let h = even _ _ _ _ q (filled-length _ _ f) (p .0) (p .2) in
-    let l = ap (λ (k : Rung). k .climb .rungs) (r .rung .ensures) ∙ rung-counted _ _ _ (s .stretch .result) in
+    let l = ap (λ (k : Rung). k .climb .rungs) (r .rung .ensures) ∙ rung-counted _ _ _ (s .entries .result) in
     let m = f .part .counted in
-    (writing-rung _ _ _ _ _ (r .rung .result) refl refl (inside _ _ _ _ h) h (r .rung .ensures) (u .put .ensures) (record { index = refl; reached = twice _ _; filled = f }) .filled, omega arith)
+    (writing-rung _ _ same-spreads _ _ _ (r .rung .result) (r .rung .result .entry) refl refl (inside _ _ _ _ h) h (r .rung .ensures) refl (u .put .ensures) (record { index = refl; reached = twice _ _; filled = f }) .filled, omega arith)
 
 same-length-2 : tie.Need-same-length-2
-same-length-2 c = filled-length _ _ (c .before .before .before .before .before .stretch .ensures)
+same-length-2 c = filled-length _ _ (c .before .before .before .before .before .entries .ensures)
 
 returns-2 : tie.Need-returns-2
 returns-2 c =
     let s = c .before .before .before .before .before in
-    let f = s .stretch .ensures in
+    let f = s .entries .ensures in
     let m = f .part .counted in
     let l = filled-length _ _ f in
     (f, omega arith)
@@ -98,7 +99,7 @@ pub onward-spec : {M : Type 1} → statement M
 onward-spec =
     tie.close
     (tie.spec
-    stretch-requires
+    entries-requires
     sub-climbed
     cast-at
     mul-at

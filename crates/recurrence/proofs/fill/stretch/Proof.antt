@@ -6,26 +6,27 @@ use native.Mathlib.Omega.{arith}
 use lib.Dec.{T}
 use lib.ListN.{length}
 use lib.Ieee.{Float, binary64, ofBits, lt}
-use Rattle.recurrence.specs.State.{reciprocalOf, limitOf}
-use Rattle.recurrence.specs.shapes.Stretch.{PartFilled}
+use Rattle.recurrence.specs.State.{limitOf}
+use Rattle.recurrence.specs.shapes.Stretch.{PartHeld}
 use Rattle.recurrence.specs.declared.state.OverflowState.{OverflowState}
 use Rattle.recurrence.proofs.LimitFacts.{limit-positive}
 use Rattle.recurrence.proofs.StretchFacts.{held}
-use Rattle.recurrence.proofs.FillFacts.{filled-start, filled-again, filled-length}
+use Rattle.recurrence.proofs.FillFacts.{filled-start, held-again, filled-length}
+use Rattle.recurrence.proofs.OffScaleFacts.{scale-spreads}
 use Rattle.recurrence.proofs.fill.stretch.Statement.{statement}
 use Rattle.recurrence.proofs.fill.stretch.Tie as tie
 
--- three rungs more than c, which is after c₀
-rungs : (c₀ c d : ℕ) → c₀ ≤ c → d ≡ c + 3 → c₀ ≤ d
+-- four rungs more than c, which is after c₀
+rungs : (c₀ c d : ℕ) → c₀ ≤ c → d ≡ c + 4 → c₀ ≤ d
 rungs c₀ c d h e = omega arith
 
-index : (from c₀ c d i : ℕ) → c₀ ≤ c → d ≡ c + 3 → i ≡ from + (c - c₀) → i + 3 ≡ from + (d - c₀)
+index : (from c₀ c d i : ℕ) → c₀ ≤ c → d ≡ c + 4 → i ≡ from + (c - c₀) → i + 4 ≡ from + (d - c₀)
 index from c₀ c d i h e g = omega arith
 
-cells : (place c₀ c d at : ℕ) → c₀ ≤ c → d ≡ c + 3 → at ≡ place + (c - c₀) * 2 → at + 6 ≡ place + (d - c₀) * 2
+cells : (place c₀ c d at : ℕ) → c₀ ≤ c → d ≡ c + 4 → at ≡ place + (c - c₀) * 2 → at + 8 ≡ place + (d - c₀) * 2
 cells place c₀ c d at h e g = omega arith
 
-room : (at l m : ℕ) → 6 ≤ l - at → l ≡ m → at + 6 ≤ m
+room : (at l m : ℕ) → 8 ≤ l - at → l ≡ m → at + 8 ≤ m
 room at l m h e = omega arith
 
 abbrev Inv-loop : tie.InvT-loop
@@ -36,7 +37,7 @@ Inv-loop two-over-z base-order from out₀ place g c₀ i₀ at₀ out c i at =
     × (at ≤ length out₀)
     × (length out ≡ length out₀)
     × (c .state ≡ c₀ .state)
-    × PartFilled two-over-z base-order from (from + (length out₀ - place) / 2) c₀ place out₀ c out
+    × PartHeld two-over-z base-order from (from + (length out₀ - place) / 2) c₀ place out₀ c out
 
 abbrev μ-loop : tie.MeasureT-loop
 μ-loop two-over-z base-order from out₀ place g c₀ i₀ at₀ out c i at = length out₀ - at
@@ -44,11 +45,8 @@ abbrev μ-loop : tie.MeasureT-loop
 limit-requires : tie.Need-limit-requires Inv-loop μ-loop
 limit-requires c κs = search needs
 
-reciprocal-requires : tie.Need-reciprocal-requires Inv-loop μ-loop
-reciprocal-requires c κs = search needs
-
 loop-holds : tie.Need-loop-holds Inv-loop μ-loop
-loop-holds c = let p = c .before .before .before .pre in (omega arith, omega arith, omega arith, p .0, refl, refl, filled-start _ _ _ _ _ _ _ (p .0))
+loop-holds c = let p = c .before .before .pre in (omega arith, omega arith, omega arith, p .0, refl, refl, filled-start _ _ (scale-spreads _) _ _ _ _ _ (p .0))
 
 factor-re-requires : tie.Need-factor-re-requires Inv-loop μ-loop
 factor-re-requires c κs = search needs
@@ -62,17 +60,17 @@ same-length c = c .before .before .before .loop .inv .4
 returns : tie.Need-returns Inv-loop μ-loop
 returns c = c .before .before .before .loop .inv .6
 
-three-rungs-requires : tie.Need-three-rungs-requires Inv-loop μ-loop
-three-rungs-requires c κs =
+four-rungs-requires : tie.Need-four-rungs-requires Inv-loop μ-loop
+four-rungs-requires c κs =
     let e = c .before in
     let f = e .before in
     let l = f .before .before in
     let b = l .before in
     let v = l .loop .inv in
-    let p = b .before .before .before .pre in
+    let p = b .before .before .pre in
     let t = e .if1 .left in (
-      record { above = subst (λ (x : Float). T (lt (ofBits binary64 0) x)) (sym (b .before .limit .ensures)) (limit-positive _); ahead = f .factor-re .ensures },
-      record { most = b .before .limit .ensures ∙ ap limitOf (sym (v .5)); back = b .reciprocal .ensures ∙ ap reciprocalOf (sym (v .5)) },
+      record { above = subst (λ (x : Float). T (lt (ofBits binary64 0) x)) (sym (b .limit .ensures)) (limit-positive _); ahead = f .factor-re .ensures },
+      b .limit .ensures ∙ ap limitOf (sym (v .5)),
       omega arith,
       omega arith,
       room _ _ _ t refl,
@@ -80,7 +78,7 @@ three-rungs-requires c κs =
     )
 
 same-length-2 : tie.Need-same-length-2 Inv-loop μ-loop
-same-length-2 c = let r = c .before .before .before .before .before in filled-length _ _ (r .three-rungs .ensures .0) ∙ r .before .before .before .before .before .loop .inv .4
+same-length-2 c = let r = c .before .before .before .before .before in filled-length _ _ (r .four-rungs .ensures .0) ∙ r .before .before .before .before .before .loop .inv .4
 
 returns-2 : tie.Need-returns-2 Inv-loop μ-loop
 returns-2 c =
@@ -89,14 +87,14 @@ returns-2 c =
     let l = e .before .before .before in
     let v = l .loop .inv in
     let t = e .if1 .left in
-    filled-again _ _ (l .loop .i) (l .loop .at) (v .1) (v .2) (omega arith) (v .6) (r .three-rungs .ensures .0)
+    held-again _ _ (l .loop .i) (l .loop .at) (v .1) (v .2) (omega arith) (v .5) (v .6) (r .four-rungs .ensures .0)
 
 add-i : tie.Need-add-i Inv-loop μ-loop
 add-i c =
     let e = c .before .before .before .before .before .before .before in
     let l = e .before .before .before in
     let v = l .loop .inv in
-    let p = l .before .before .before .before .pre in
+    let p = l .before .before .before .pre in
     let t = e .if1 .left in
     omega arith
 
@@ -105,7 +103,7 @@ add-at c =
     let e = c .before .before .before .before .before .before .before in
     let l = e .before .before .before in
     let v = l .loop .inv in
-    let p = l .before .before .before .before .pre in
+    let p = l .before .before .before .pre in
     let t = e .if1 .left in
     omega arith
 
@@ -124,10 +122,10 @@ loop-again c =
     let l = e .before .before .before in
     let v = l .loop .inv in
     let t = e .if1 .left in
-    let q = r .three-rungs .ensures .1 in
-    let n = q .three (held (r .three-rungs .result .whole) (c .if2 .left)) in
-    let j = filled-length _ _ (r .three-rungs .ensures .0) in
-    (rungs _ _ _ (v .0) n, index _ _ _ _ _ (v .0) n (v .1), cells _ _ _ _ _ (v .0) n (v .2), room _ _ _ t (v .4), j ∙ v .4, q .state ∙ v .5, filled-again _ _ (l .loop .i) (l .loop .at) (v .1) (v .2) (omega arith) (v .6) (r .three-rungs .ensures .0))
+    let q = r .four-rungs .ensures .1 in
+    let n = q .four (held (r .four-rungs .result .whole) (c .if2 .left)) in
+    let j = filled-length _ _ (r .four-rungs .ensures .0) in
+    (rungs _ _ _ (v .0) n, index _ _ _ _ _ (v .0) n (v .1), cells _ _ _ _ _ (v .0) n (v .2), room _ _ _ t (v .4), j ∙ v .4, q .state ∙ v .5, held-again _ _ (l .loop .i) (l .loop .at) (v .1) (v .2) (omega arith) (v .5) (v .6) (r .four-rungs .ensures .0))
 
 same-length-3 : tie.Need-same-length-3 Inv-loop μ-loop
 same-length-3 c = c .before .loop .inv .4
@@ -142,13 +140,12 @@ stretch-spec =
     Inv-loop
     μ-loop
     limit-requires
-    reciprocal-requires
     loop-holds
     factor-re-requires
     sub-if1
     same-length
     returns
-    three-rungs-requires
+    four-rungs-requires
     same-length-2
     returns-2
     add-i

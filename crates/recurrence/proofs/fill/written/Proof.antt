@@ -7,9 +7,6 @@ use Rattle.recurrence.proofs.fill.written.Tie as tie
 next-held-requires : tie.Need-next-held-requires
 next-held-requires c κs = let p = c .before .pre .0 in (p .above, p .ahead)
 
-times-real-requires : tie.Need-times-real-requires
-times-real-requires c κs = search needs
-
 put-requires : tie.Need-put-requires
 put-requires c κs = search needs
 
@@ -20,11 +17,10 @@ returns : tie.Need-returns
 returns c =
     let p = c .before .before in
     let t = p .before .before in
-    let n = t .before .before .before in
-    record { held = n .next-held .ensures; put = rw (t .before .if1 .taken) (p .put .ensures ∙ simp (t .times-real .ensures)) }
+    record { held = t .before .before .next-held .ensures; put = rw (t .if1 .taken) (p .put .ensures) }
 
 returns-2 : tie.Need-returns-2
 returns-2 c = record { held = c .before .before .next-held .ensures; put = rw (c .if1 .left) refl }
 
 pub written-spec : {M : Type 1} → statement M
-written-spec = tie.close (tie.spec next-held-requires times-real-requires put-requires same-length returns returns-2)
+written-spec = tie.close (tie.spec next-held-requires put-requires same-length returns returns-2)

@@ -27,6 +27,7 @@ use Rattle.right_half_plane.specs.declared.reach.Reached.{Reached}
 use Rattle.right_half_plane.specs.declared.reach.Reached.the-variants as reached
 use Rattle.right_half_plane.specs.Ground.{Sized}
 use Rattle.right_half_plane.specs.Recover.{isZeroPair, neighboursOf, settledOf, recoverOf}
+use Rattle.right_half_plane.specs.Lead.{MarkedFew}
 use Rattle.right_half_plane.specs.Reach.{stepsOf, wantedOf, restingOf, climbedOf, resumedOf, begunOf, reachOf, Few}
 
 -- ---- the climb out of underflow: two neighbours and the offset behind the rungs climbed, or refusal 7
@@ -130,3 +131,8 @@ on-scale-few g underflow c d r e o s z = arrived-few g d s (subst (Arrives g) (s
 
 pub marked-few : (g : Ground) (underflow : Bool) (c d : Climb) (r : Reached) → r ≡ reachOf g underflow c → r ≡ reached.Marked d → Sized g → c .rungs ≡ 0 → d .rungs ≤ 1000
 marked-few g underflow c d r e o s z = arrived-few g d s (subst (Arrives g) (sym e ∙ o) (reach-arrives g underflow c z))
+
+pub reached-few : (g : Ground) (underflow : Bool) (c : Climb) (r : Reached) → r ≡ reachOf g underflow c → Sized g → c .rungs ≡ 0 → MarkedFew r
+reached-few g underflow c (reached.OnScale d) e s z = tt
+reached-few g underflow c (reached.Marked d) e s z = marked-few g underflow c d (reached.Marked d) e refl s z
+reached-few g underflow c (reached.Refused refusal) e s z = tt

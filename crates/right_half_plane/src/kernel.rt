@@ -10,6 +10,7 @@ ghost use Rattle.laws.proofs.Relative.{nonnegative};
 ghost use Rattle.complex.specs.Functions.{modulusOf};
 ghost use Rattle.call.specs.Limits.{largestOrder};
 ghost use Rattle.right_half_plane.specs.Ground.{Sized};
+ghost use Rattle.right_half_plane.specs.Lead.{MarkedFew, ledOf};
 ghost use Rattle.right_half_plane.specs.Kernel.{LeadFits, restOf, leadCells, leadKernel, pairKernel, finishedKernel, kernelOf, afterwards};
 use crate::ground::Ground;
 use crate::ground::prepare;
@@ -86,6 +87,19 @@ fn answered(g: Ground, s: Seeded, lead: Lead, out: &mut [f64]) -> Ending
     })
 }
 
+// The lead of where the climb stands. It is one record for all ways, so that the compiler keeps it in registers: a refused climb has none, and that of
+// its start stands for it, unread.
+fn led(g: Ground, start: Climb, reached: Reached) -> Lead
+    requires { ⌜ Sized g × MarkedFew reached ⌝ }
+    ensures { λ r. ⌜ r ≡ ledOf g start reached ⌝ }
+{
+    match reached {
+        Reached::OnScale(c) => on_scale_lead(c),
+        Reached::Marked(c) => first_lead(g, c),
+        Reached::Refused(_) => on_scale_lead(start),
+    }
+}
+
 fn from_pair(g: Ground, s: Seeded, first: Complex, second: Complex, out: &mut [f64]) -> Ending
     requires { ⌜ Sized g × (length (now out) ≡ g .count * 2) ⌝ }
     ensures { λ r. ⌜ (r ≡ pairKernel g s first second .ending)
@@ -99,9 +113,10 @@ fn from_pair(g: Ground, s: Seeded, first: Complex, second: Complex, out: &mut [f
         rungs: 0,
     };
     let reached = reach(g, s.underflow, start);
+    let lead = led(g, start, reached);
     match reached {
-        Reached::OnScale(c) => answered(g, s, on_scale_lead(c), out),
-        Reached::Marked(c) => answered(g, s, first_lead(g, c), out),
+        Reached::OnScale(_) => answered(g, s, lead, out),
+        Reached::Marked(_) => answered(g, s, lead, out),
         Reached::Refused(refusal) => Ending::Refused(refusal),
     }
 }

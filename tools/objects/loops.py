@@ -5,36 +5,36 @@ loops.py --self-test         holds the counting to listings made up here: one as
 
 The listings are assembly (tools/objects/listing.sh). A loop is a stretch of a function from a label to a branch back to it, with no other loop in it; two
 that cross are one. It is known by its arithmetic, wherever the compiler has put it: multiplications, additions and subtractions, divisions, whole numbers
-made floats, a packed instruction counted as two. Where several loops are equally near, the one with the most instructions is judged. A loop that is not
+made floats, and floats put into memory but not on the stack; a packed instruction counts as two. Where several loops are equally near, the one with the most instructions is judged. A loop that is not
 found fails too: whoever changed what it computes reads the new one, and records it here."""
 import re
 import sys
 
-# a turn of the loop: its name, its arithmetic (multiplications, additions and subtractions, divisions, conversions), how many rungs, steps, terms or cells
-# it has, the most instructions that one of them may take, and in how many places such a loop stands at least
+# a turn of the loop: its name, its arithmetic (multiplications, additions and subtractions, divisions, conversions, floats put into memory), how many rungs,
+# steps, terms or cells it has, the most instructions that one of them may take, and in how many places such a loop stands at least
 TURNS = {
     "aarch64": [
-        ("a rung of the climb", (18, 15, 0, 3), 3, 21, 1),
-        ("a rung of the fill", (24, 15, 0, 3), 3, 25, 1),
-        ("a backward step of Miller's", (22, 24, 2, 0), 2, 28.5, 1),
-        ("a term of Temme's, order whole", (26, 20, 2, 2), 1, 50, 1),
-        ("a term of Temme's", (26, 23, 4, 2), 1, 54, 1),
-        ("a term of I, one sum of two", (32, 24, 4, 0), 2, 38, 1),
-        ("a term of I, a sum alone", (16, 12, 2, 0), 1, 39, 1),
-        ("a step of I's recurrence", (12, 10, 0, 2), 2, 17, 1),
-        ("a cell judged, K and I", (8, 0, 0, 0), 8, 1.3, 2),
+        ("a rung of the climb", (24, 20, 0, 4, 0), 4, 20.5, 1),
+        ("a rung of the fill", (24, 20, 0, 4, 8), 4, 22, 1),
+        ("a backward step of Miller's", (22, 24, 2, 0, 0), 2, 28.5, 1),
+        ("a term of Temme's, order whole", (26, 20, 2, 2, 0), 1, 50, 1),
+        ("a term of Temme's", (26, 23, 4, 2, 0), 1, 54, 1),
+        ("a term of I, one sum of two", (32, 24, 4, 0, 0), 2, 38, 1),
+        ("a term of I, a sum alone", (16, 12, 2, 0, 0), 1, 39, 1),
+        ("a step of I's recurrence", (12, 10, 0, 2, 4), 2, 17, 1),
+        ("a cell judged, K and I", (8, 0, 0, 0, 0), 8, 1.3, 2),
     ],
     "x86-64": [
-        ("a rung of the climb", (18, 15, 0, 3), 3, 29.5, 1),
-        ("a rung of the fill", (24, 15, 0, 3), 3, 35, 1),
-        ("a backward step of Miller's", (22, 24, 2, 0), 2, 41, 1),
-        ("a term of Temme's, order whole", (26, 22, 2, 2), 1, 77, 1),
-        ("a term of Temme's", (26, 25, 4, 2), 1, 99, 1),
-        ("a term of I, one sum of two", (32, 32, 4, 0), 2, 55, 1),
-        ("a term of I, a sum alone", (16, 16, 2, 0), 1, 52, 1),
-        ("a step of I's recurrence", (12, 14, 0, 2), 2, 26.5, 1),
-        ("a cell judged, K", (16, 0, 0, 0), 16, 1.25, 1),
-        ("a cell judged, I", (8, 0, 0, 0), 8, 1.6, 1),
+        ("a rung of the climb", (24, 20, 0, 4, 0), 4, 27.75, 1),
+        ("a rung of the fill", (24, 20, 0, 4, 8), 4, 30, 1),
+        ("a backward step of Miller's", (22, 24, 2, 0, 0), 2, 41, 1),
+        ("a term of Temme's, order whole", (26, 22, 2, 2, 0), 1, 77, 1),
+        ("a term of Temme's", (26, 25, 4, 2, 0), 1, 99, 1),
+        ("a term of I, one sum of two", (32, 32, 4, 0, 0), 2, 55, 1),
+        ("a term of I, a sum alone", (16, 16, 2, 0, 0), 1, 52, 1),
+        ("a step of I's recurrence", (12, 14, 0, 2, 4), 2, 26.5, 1),
+        ("a cell judged, K", (16, 0, 0, 0, 0), 16, 1.25, 1),
+        ("a cell judged, I", (8, 0, 0, 0, 0), 8, 1.6, 1),
     ],
 }
 FAR = 2
@@ -43,7 +43,7 @@ ARITHMETIC = [("mul", 0), ("add", 1), ("sub", 1), ("div", 2)]
 
 class Loop:
     def __init__(self, function, body):
-        self.function, self.size, self.does = function, len(body), [0, 0, 0, 0]
+        self.function, self.size, self.does = function, len(body), [0, 0, 0, 0, 0]
         for word, operands in body:
             kind, lanes = work(word, operands)
             if kind is not None:
@@ -53,10 +53,24 @@ class Loop:
         return sum(abs(a - b) for a, b in zip(self.does, wanted))
 
 
+def put(word, operands):
+    """How many f64 an instruction puts into memory; what is put on the stack is the compiler's own affair."""
+    if "[sp" in operands or "[x29" in operands or "(%rsp)" in operands or "(%rbp)" in operands:
+        return 0
+    if re.match(r"stu?r$|stp$", word) and operands[:1] in "dq":
+        return (2 if word == "stp" else 1) * (2 if operands.startswith("q") else 1)
+    if operands.startswith("%xmm") and operands.endswith(")"):
+        return {"movsd": 1, "movlpd": 1, "movhpd": 1, "movlps": 1, "movhps": 1, "movupd": 2, "movapd": 2, "movups": 2, "movaps": 2}.get(word, 0)
+    return 0
+
+
 def work(word, operands):
-    """Which arithmetic an instruction does on f64, and on how many at once."""
+    """Which arithmetic an instruction does on f64, and on how many at once; kind 4 is putting."""
     if re.match(r"[us]cvtf$|cvtsi2sd", word):
         return 3, 1
+    lanes = put(word, operands)
+    if lanes:
+        return 4, lanes
     for name, kind in ARITHMETIC:
         if word == name + "sd" or word == "f" + name and operands.startswith("d") or name == "mul" and word == "fnmul":
             return kind, 1
@@ -111,7 +125,7 @@ def judged(found, turns, share=1):
         near = min((loop.distance(wanted) for loop in found), default=0)
         nearest = [loop for loop in found if loop.distance(wanted) == near]
         if near > FAR or len(nearest) < places:
-            text = "%-31s NOT FOUND in %d places: about %d multiplications, %d additions, %d divisions, %d conversions"
+            text = "%-31s NOT FOUND in %d places: about %d multiplications, %d additions, %d divisions, %d conversions, %d put"
             yield None, text % (name, places, *wanted)
             continue
         loop = max(nearest, key=lambda one: one.size)
@@ -137,13 +151,14 @@ def made_up(*blocks):
 
 
 def self_test():
-    """The climb's turn, made up: 18 multiplications, 15 additions and subtractions, 3 conversions and moves, with a label before them and a branch behind."""
-    rungs = "\tfmul\td0, d1, d2\n" * 18 + "\tfadd\td0, d1, d2\n" * 12 + "\tfsub\td0, d1, d2\n" * 3 + "\tucvtf\td0, w0\n" * 3
-    packed = "\tfmul\tv0.2d, v1.2d, v2.2d\n" * 9 + "\tfadd\tv0.2d, v1.2d, v2.2d\n" * 7 + "\tfsub\td0, d1, d2\n" + "\tucvtf\td0, w0\n" * 3
+    """The climb's turn, made up: 24 multiplications, 20 additions and subtractions, 4 conversions and moves, with a label before them and a branch behind."""
+    rungs = "\tfmul\td0, d1, d2\n" * 24 + "\tfadd\td0, d1, d2\n" * 16 + "\tfsub\td0, d1, d2\n" * 4 + "\tucvtf\td0, w0\n" * 4
+    packed = "\tfmul\tv0.2d, v1.2d, v2.2d\n" * 12 + "\tfadd\tv0.2d, v1.2d, v2.2d\n" * 9 + "\tfsub\td0, d1, d2\n" * 2 + "\tucvtf\td0, w0\n" * 4
+    puts, spills = "\tstp\td0, d1, [x0]\n" * 4, "\tstp\td0, d1, [sp, #16]\n" * 4
     head, back, on, end = ".LBB0_1:\n", "\tb.lo\t.LBB0_1\n", "\tb.lo\t.LBB0_2\n", ".LBB0_2:\n"
     out, outer = ".LBB0_3:\n", "\tcbnz\tw0, .LBB0_3\n"
     turn = TURNS["aarch64"][:1]
-    spare = int(turn[0][2] * turn[0][3]) - 37
+    spare = int(turn[0][2] * turn[0][3]) - 49
     cases = [
         ("a turn as long as its limit", False, made_up(5, head, rungs, spare, back, 5)),
         ("one instruction more", True, made_up(5, head, rungs, spare + 1, back, 5)),
@@ -152,6 +167,8 @@ def self_test():
         ("a loop around the turn", False, made_up(out, 30, head, rungs, spare, back, 30, outer)),
         ("two loops that cross, which are one", True, made_up(out, 20, head, rungs, spare, outer, 20, back)),
         ("packed instructions", False, made_up(head, packed, back)),
+        ("the same arithmetic with floats put into memory", None, made_up(head, rungs, puts, back)),
+        ("and on the stack", False, made_up(head, rungs, spills, back)),
         ("the longer of two such turns", True, made_up(head, rungs, back, out, rungs, spare + 1, outer)),
     ]
     bad = [what for what, expected, lines in cases if [above for above, _ in judged(loops(lines), turn)] != [expected]]

@@ -1,6 +1,6 @@
 #!/usr/bin/env bash
 # run.sh [ROUNDS [RUNS]]: times of other libraries beside ours, on this machine, behind what that is: the Fortran of Algorithm 644 (looked for as tools/accuracy/run.sh does) and, where they are installed, Arb and SciPy.
-# A cell has the least / the median / the largest of RUNS runs. tools/host/archive.sh must have run. Not part of ./check.
+# A cell has the least / the median / the largest of RUNS runs. Above the table: what the chain of a rung of K takes here, alone. tools/host/archive.sh must have run. Not part of ./check.
 set -eu
 cd "$(dirname "$0")/../.."
 fortran=${LICHENOAR_FORTRAN_TEXT:-../shared/docs/amos}
@@ -14,7 +14,9 @@ for routine in zbknu zkscl zseri dgamln zuchk zshch; do
     gfortran -O2 -ffp-contract=off -std=legacy -c "$fortran/$routine.f" -o "$work/$routine.o"
 done
 gcc -O2 -Wall -Wextra -ffp-contract=off tools/peers/peers.c "$work"/*.o target/host/libcapi.a -o "$work/peers" -lm
+gcc -O2 -Wall -Wextra -ffp-contract=off -fno-tree-slp-vectorize tools/peers/chain.c -o "$work/chain"
 tools/host/machine.sh
+"$work/chain"
 echo
 "$work/peers" "$rounds" "$runs"
 if gcc -O2 -Wall -Wextra tools/peers/arb.c -o "$work/arb" -lflint-arb -lflint -lm 2> "$work/log" || gcc -O2 -Wall -Wextra tools/peers/arb.c -o "$work/arb" -lflint -lm 2>> "$work/log"; then

@@ -8,7 +8,7 @@ import sys
 
 import count
 
-BESIDE = {"temme": 2100, "complex": 1950, "real": 1600, "half": 1200}
+BESIDE = {"temme": 2200, "complex": 2050, "real": 1700, "half": 1300}
 
 
 def word(x):
@@ -16,12 +16,12 @@ def word(x):
 
 
 def order():
-    return random.choice((random.uniform(0, 1000), random.uniform(0, 50), random.uniform(0, 2), random.randrange(1001), random.randrange(1000) + 0.5,
+    return random.choice((random.uniform(0, 1000), random.uniform(0, 50), random.uniform(0, 8), random.uniform(0, 2), random.randrange(1001), random.randrange(1000) + 0.5,
                           random.randrange(1000) + 2.0 ** random.uniform(-60, -2)))
 
 
 def orders():
-    return random.choice((1, 2, random.randint(1, 20), random.randint(1, 512)))
+    return random.choice((1, 2, random.randint(1, 9), random.randint(1, 20), random.randint(1, 512)))
 
 
 def modulus():

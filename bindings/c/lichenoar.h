@@ -29,10 +29,10 @@
 #include <stdint.h>
 
 /* The version that this header came with, as words and as numbers. */
-#define LICHENOAR_VERSION "0.2.0"
+#define LICHENOAR_VERSION "0.2.1"
 #define LICHENOAR_VERSION_MAJOR 0
 #define LICHENOAR_VERSION_MINOR 2
-#define LICHENOAR_VERSION_PATCH 0
+#define LICHENOAR_VERSION_PATCH 1
 
 #ifdef __cplusplus
 extern "C" {

@@ -37,8 +37,8 @@ def unfinished(pairs):
 
 def open_rows(without, orders):
     """The line below a table with rows that are not finished: how many, and what to do."""
-    todo = "ask plain if it was asked scaled, else at a modulus of 37 or less; another number of orders does not help"
-    return f"not finished: {without} of {counted(orders, 'order')}, from the lowest up; no value stands there; {todo}"
+    remedy = "ask plain if it was asked scaled, else at a modulus of 37 or less; another number of orders does not help"
+    return f"not finished: {without} of {counted(orders, 'order')}, from the lowest up; no value stands there; {remedy}"
 
 
 def shown(line, first, meanings):

@@ -27,7 +27,7 @@ use Rattle.right_half_plane.specs.declared.reach.Reached.{Reached}
 use Rattle.right_half_plane.specs.declared.reach.Reached.the-variants as reached
 use Rattle.right_half_plane.specs.Ground.{Sized}
 use Rattle.right_half_plane.specs.Recover.{isZeroPair, neighboursOf, settledOf, recoverOf}
-use Rattle.right_half_plane.specs.Lead.{MarkedFew}
+use Rattle.right_half_plane.specs.shapes.Led.{MarkedFew}
 use Rattle.right_half_plane.specs.Reach.{stepsOf, wantedOf, restingOf, climbedOf, resumedOf, begunOf, reachOf, Few}
 
 -- ---- the climb out of underflow: two neighbours and the offset behind the rungs climbed, or refusal 7

@@ -1,6 +1,6 @@
 -- The zeros before the first order on scale, the first two entries after them, and the climb that goes on from there: ZBKNU's labels 240 and 270
 -- (zbknu.f); `k_right_half_plane` of src/amos/right_half_plane.rs. Definitions only.
-use Prim.Native.Nat.{ℕ, _+_, _≤_}
+use Prim.Native.Nat.{ℕ, _+_}
 use Rattle.machine.specs.Constants.{tolerance}
 use Rattle.complex.specs.Arithmetic.{timesReal}
 use Rattle.recurrence.specs.State.{reciprocalOf}
@@ -8,8 +8,6 @@ use Rattle.recurrence.specs.First.{firstOrders}
 use Rattle.recurrence.specs.declared.state.OverflowState.the-variants.{NearUnder}
 use Rattle.recurrence.specs.declared.state.Climb.{Climb}
 use Rattle.right_half_plane.specs.declared.ground.Ground.{Ground}
-use Rattle.right_half_plane.specs.declared.reach.Reached.{Reached}
-use Rattle.right_half_plane.specs.declared.reach.Reached.the-variants as reached
 use Rattle.right_half_plane.specs.declared.lead.Lead.{Lead}
 
 -- no zeros, and the two values off the scale
@@ -28,15 +26,3 @@ firstLead g c =
       second = timesReal (s .second) tolerance;
       climb = record { older = s .first; newer = s .second; state = NearUnder; rungs = c .rungs + s .rungs };
     }
-
--- a marked climb has few rungs behind it
-abbrev pub MarkedFew : Reached → Type 0
-MarkedFew (reached.OnScale c) = Unit
-MarkedFew (reached.Marked c) = c .rungs ≤ 1000
-MarkedFew (reached.Refused refusal) = Unit
-
--- the lead of where the climb stands; a refused one has none, and for it stands, unread, that of its start
-unfoldable pub ledOf : Ground → Climb → Reached → Lead
-ledOf g start (reached.OnScale c) = onScaleLead c
-ledOf g start (reached.Marked c) = firstLead g c
-ledOf g start (reached.Refused refusal) = onScaleLead start

@@ -10,7 +10,7 @@ ghost use Rattle.laws.proofs.Relative.{nonnegative};
 ghost use Rattle.complex.specs.Functions.{modulusOf};
 ghost use Rattle.call.specs.Limits.{largestOrder};
 ghost use Rattle.right_half_plane.specs.Ground.{Sized};
-ghost use Rattle.right_half_plane.specs.Lead.{MarkedFew, ledOf};
+ghost use Rattle.right_half_plane.specs.shapes.Led.{MarkedFew, ledOf};
 ghost use Rattle.right_half_plane.specs.Kernel.{LeadFits, restOf, leadCells, leadKernel, pairKernel, finishedKernel, kernelOf, afterwards};
 use crate::ground::Ground;
 use crate::ground::prepare;

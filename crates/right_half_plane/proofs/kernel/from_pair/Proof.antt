@@ -1,6 +1,6 @@
 -- `right_half_plane::kernel::from_pair` meets its contract: three ways, by where the climb stands. Assumes nothing.
 use mathlib.Core.Path.{refl, sym, ap, _∙_, subst}
-use Rattle.right_half_plane.specs.Lead.{ledOf}
+use Rattle.right_half_plane.specs.shapes.Led.{ledOf}
 use Rattle.right_half_plane.specs.Kernel.{LeadFits, leadKernel, refusedKernel, reachedKernel, pairKernel, afterIf, afterwards}
 use Rattle.right_half_plane.proofs.Counts.{on-scale-few, marked-few, reached-few}
 use Rattle.right_half_plane.proofs.LeadFacts.{on-scale-fits, first-fits}

@@ -1,6 +1,6 @@
 -- `right_half_plane::kernel::led` meets its contract, by where the climb stands. Assumes nothing.
 use mathlib.Core.Path.{subst}
-use Rattle.right_half_plane.specs.Lead.{MarkedFew, ledOf}
+use Rattle.right_half_plane.specs.shapes.Led.{MarkedFew, ledOf}
 use borrow.Author.Needs.{needs}
 use Rattle.right_half_plane.proofs.kernel.led.Statement.{statement}
 use Rattle.right_half_plane.proofs.kernel.led.Tie as tie

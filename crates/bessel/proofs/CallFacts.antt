@@ -1,10 +1,8 @@
 -- What every call has in common, whatever its checks and its steps: how it ends, and its number. Assumes nothing.
 use mathlib.Core.Path.{_≡_, refl, sym, ap, _∙_, subst}
-use mathlib.Core.Bool.{Bool, true, false, not, cond, _||_}
-use mathlib.Core.List.{List, _∷_, _++_}
-use Prim.Native.Nat.{ℕ, zero, suc}
-use native.Mathlib.Nat.{zero-lt-suc}
-use lib.Dec.{T, eqb}
+use mathlib.Core.Bool.{Bool, true, false, not, cond}
+use mathlib.Core.List.{List, _++_}
+use Prim.Native.Nat.{ℕ}
 use lib.IntN.{pos}
 use lib.ListN.{drop, replicate}
 use lib.Ieee.{Float}
@@ -17,8 +15,8 @@ use Rattle.call.specs.declared.answer.Answer.{Answer}
 use Rattle.call.specs.declared.checks.Verdict.{Verdict}
 use Rattle.call.specs.declared.checks.Verdict.the-variants.{Admitted, Refused}
 use Rattle.call.specs.Answer.{refusedOf}
-use Rattle.call.specs.Checks.{Check, verdictFrom, verdictOf, numberGiven, noneApplies, numbersOf}
-use Rattle.call.proofs.FirstFacts.{stays, verdict-append, admitted-none, isOneOf, Given, given}
+use Rattle.call.specs.Checks.{Check, verdictFrom, verdictOf, numberGiven, noneApplies}
+use Rattle.call.proofs.FirstFacts.{stays, verdict-append, admitted-none, Given, given}
 use Rattle.bessel.specs.Outcome.{Outcome, refusedOutcome, judgedIf, judgedOf, Steps, Delivered, Stopped, concludedOf, outcomeBy, callOutcome}
 
 -- ---- a refusal: its number, counts of zero, and the fixed not-a-number in every cell
@@ -82,17 +80,3 @@ pub judged-number :
 unfolding numberGiven judgedIf refusedOutcome refusedOf
 judged-number true length answer cells e = sym e
 judged-number false length answer cells e = refl
-
--- the numbers of a call, each named once
-pub one-of : (m : ℕ) (cs : List Check) (rest : List ℕ) → Given cs m → numbersOf cs ≡ 1 ∷ 2 ∷ 3 ∷ 3 ∷ 3 ∷ rest → T (isOneOf m (0 ∷ 1 ∷ 2 ∷ 3 ∷ rest))
-one-of zero cs rest g e = tt
-one-of (suc n) cs rest g e =
-    once (eqb 0 (suc n)) (eqb 1 (suc n)) (eqb 2 (suc n)) (eqb 3 (suc n)) (isOneOf (suc n) rest)
-    (subst (λ (l : List ℕ). T (isOneOf (suc n) l)) e (g .only (suc n) (zero-lt-suc n) refl))
-  where
-    once : (z a b c x : Bool) → T (a || (b || (c || (c || (c || x))))) → T (z || (a || (b || (c || x))))
-    once true a b c x t = tt
-    once false true b c x t = tt
-    once false false true c x t = tt
-    once false false false true x t = tt
-    once false false false false x t = t

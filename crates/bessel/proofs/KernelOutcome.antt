@@ -2,7 +2,7 @@
 use mathlib.Core.Path.{_≡_, refl, sym, ap, _∙_, subst}
 use mathlib.Core.Logic.{_⊎_, inl, inr}
 use mathlib.Core.Bool.{Bool, true, not}
-use mathlib.Core.List.{List, [], _∷_}
+use mathlib.Core.List.{List, [], _∷_, _++_}
 use Prim.Native.Nat.{ℕ, _+_, _-_, _*_, _/_, _≤_, _<_}
 use native.Mathlib.Omega.{arith}
 use lib.IntN.{pos}
@@ -17,7 +17,8 @@ use Rattle.refusal.proofs.Distinct.{never-zero}
 use Rattle.call.specs.declared.answer.Answer.{Answer}
 use Rattle.call.specs.Answer.{answeredOf, refusedOf}
 use Rattle.call.specs.Checks.{check, refusedIf, verdictFrom, verdictOf, numberGiven, noneApplies, numbersOf, lengthChecks, finiteChecks, limitChecks}
-use Rattle.call.proofs.FirstFacts.{Given, isOneOf}
+use Rattle.call.proofs.FirstFacts.{Given, isOneOf, none-or-listed}
+use Rattle.call.proofs.WhichLimit.{HitsLimit, hits-limit}
 use Rattle.call.proofs.LimitFacts.{lent}
 use Rattle.right_half_plane.specs.declared.kernel.Counts.{Counts}
 use Rattle.right_half_plane.specs.declared.kernel.Ending as kernels
@@ -34,7 +35,7 @@ use Rattle.bessel.specs.Checks.{argumentChecks, kOwnChecks, kChecks}
 use Rattle.bessel.specs.Outcome.{Outcome, Delivered, refusedOutcome, judgedOf, concludedOf}
 use Rattle.bessel.specs.K.{kernelBy, countsAnswer, kernelSteps, kSteps, kOutcome, groundBy, kernelChecks, allKChecks}
 use Rattle.bessel.proofs.CheckFacts.{k-passed}
-use Rattle.bessel.proofs.CallFacts.{judged-number, RefusedWhole, refused-facts, Ended, refused, answered, ends, numbered, one-of}
+use Rattle.bessel.proofs.CallFacts.{judged-number, RefusedWhole, refused-facts, Ended, refused, answered, ends, numbered}
 
 -- ---- how the kernel's steps end: refusal 6, 7, or neither
 data EndsWith (o : kernels.Ending) : Type 0 where
@@ -66,7 +67,7 @@ later-by length o cells b c p q (by-start e) = rw (p, q, e)
 later-by length o cells b c p q (by-climb e) = rw (p, q, e)
 
 -- the numbers that K can give besides 0, in the order of the checks
-pub listed : (scaled : Bool) (a : Arguments) (length : ℕ) → numbersOf (allKChecks scaled a length) ≡ 1 ∷ 2 ∷ 3 ∷ 3 ∷ 3 ∷ 4 ∷ 6 ∷ 7 ∷ 8 ∷ []
+pub listed : (scaled : Bool) (a : Arguments) (length : ℕ) → numbersOf (allKChecks scaled a length) ≡ 1 ∷ 2 ∷ 3 ∷ 11 ∷ 12 ∷ 4 ∷ 6 ∷ 7 ∷ 8 ∷ []
 unfolding numbersOf allKChecks kChecks kOwnChecks argumentChecks lengthChecks finiteChecks limitChecks kernelChecks
 listed scaled a length = refl
 
@@ -118,8 +119,17 @@ module _ (scaled : Bool) (v re im : Float) (length : ℕ) where
       (start-exactly scaled (a .order) (a .z) (a .modulus) (length / 2)) (climb-exactly scaled (a .order) (a .z) (a .modulus) (length / 2)) (kernel-ends scaled a length))
 
   -- so no number but these
-  pub admitted : T (isOneOf (kOutcome scaled v re im length .answer .number) (0 ∷ 1 ∷ 2 ∷ 3 ∷ 4 ∷ 6 ∷ 7 ∷ 8 ∷ []))
-  admitted = let cs = allKChecks scaled (argumentsOf v re im) length in one-of (kOutcome scaled v re im length .answer .number) cs (4 ∷ 6 ∷ 7 ∷ 8 ∷ []) numbers (listed scaled (argumentsOf v re im) length)
+  pub admitted : T (isOneOf (kOutcome scaled v re im length .answer .number) (0 ∷ 1 ∷ 2 ∷ 3 ∷ 11 ∷ 12 ∷ 4 ∷ 6 ∷ 7 ∷ 8 ∷ []))
+  admitted =
+      let a = argumentsOf v re im in
+      none-or-listed (allKChecks scaled a length) (kOutcome scaled v re im length .answer .number) (1 ∷ 2 ∷ 3 ∷ 11 ∷ 12 ∷ 4 ∷ 6 ∷ 7 ∷ 8 ∷ []) numbers (listed scaled a length)
+
+  -- 3, 11 and 12 by the limit that was hit
+  pub limits : let a = argumentsOf v re im in HitsLimit length (a .order) (a .z .re) (a .z .im) (kOutcome scaled v re im length .answer .number)
+  unfolding allKChecks kChecks kOwnChecks argumentChecks kernelChecks lengthChecks finiteChecks limitChecks numbersOf
+  limits =
+      let a = argumentsOf v re im in
+      hits-limit length (a .order) (a .z .re) (a .z .im) (kOwnChecks a ++ kernelChecks scaled a length) (kOutcome scaled v re im length .answer .number) numbers refl refl refl
 
   whole-by : let a = argumentsOf v re im in Ended (kChecks a length) length (kSteps scaled a length) →
       RefusedWhole length (kOutcome scaled v re im length) ⊎ AnsweredWhole scaled (argumentsOf v re im) length (kOutcome scaled v re im length)

@@ -9,7 +9,7 @@ use Rattle.machine.specs.Constants.{underflowLimit}
 use Rattle.machine.specs.Small.{nothing, one}
 use Rattle.cells.specs.AllFinite.{allFinite}
 use Rattle.refusal.specs.declared.refusal.Refusal.{Refusal}
-use Rattle.refusal.specs.declared.refusal.Refusal.the-variants.{Length, NotFinite, Domain, Series}
+use Rattle.refusal.specs.declared.refusal.Refusal.the-variants.{Length, NotFinite, Sign, Series}
 use Rattle.call.specs.declared.checks.Verdict.the-variants.{Admitted, Refused}
 use Rattle.call.specs.Answer.{answeredOf}
 use Rattle.call.specs.Limits.{normalisedOf, lengthInside, areFinite, orderInside, signInside, partInside, sizeInside}
@@ -64,13 +64,10 @@ pub k-not-a-number : (scaled : Bool) (length : ℕ) → lengthInside length ≡ 
 unfolding verdictOf verdictFrom refusedIf argumentChecks lengthChecks finiteChecks limitChecks areFinite argumentsOf normalisedOf eq
 k-not-a-number scaled length e = refused-by scaled nan nothing nothing length NotFinite (rw e)
 
--- ---- refusal 3: a real part of -2^-1074, at any finite order and imaginary part
-below-by : (v im : Float) (length : ℕ) (o : Bool) → let a = argumentsOf v (ofBits binary64 0x8000000000000001) im in lengthInside length ≡ true → areFinite (a .order) (a .z .re) (a .z .im) ≡ true → orderInside (a .order) ≡ o → verdictOf (argumentChecks a length) ≡ Refused Domain
+-- ---- refusal 11: a real part of -2^-1074, at any order within its limits and any finite imaginary part
+below-by : (v im : Float) (length : ℕ) → let a = argumentsOf v (ofBits binary64 0x8000000000000001) im in lengthInside length ≡ true → areFinite (a .order) (a .z .re) (a .z .im) ≡ true → orderInside (a .order) ≡ true → verdictOf (argumentChecks a length) ≡ Refused Sign
 unfolding verdictOf verdictFrom refusedIf argumentChecks lengthChecks finiteChecks limitChecks signInside argumentsOf normalisedOf ofBits eq le lt
-below-by v im length true l f o = simp (l, f, o)
-below-by v im length false l f o = simp (l, f, o)
+below-by v im length l f o = simp (l, f, o)
 
-pub k-below-zero : (scaled : Bool) (v im : Float) (length : ℕ) → let a = argumentsOf v (ofBits binary64 0x8000000000000001) im in lengthInside length ≡ true → areFinite (a .order) (a .z .re) (a .z .im) ≡ true → kOutcome scaled v (ofBits binary64 0x8000000000000001) im length ≡ refusedOutcome Domain length
-k-below-zero scaled v im length l f =
-    let a = argumentsOf v (ofBits binary64 0x8000000000000001) im in
-    refused-by scaled v (ofBits binary64 0x8000000000000001) im length Domain (below-by v im length (orderInside (a .order)) l f refl)
+pub k-below-zero : (scaled : Bool) (v im : Float) (length : ℕ) → let a = argumentsOf v (ofBits binary64 0x8000000000000001) im in lengthInside length ≡ true → areFinite (a .order) (a .z .re) (a .z .im) ≡ true → orderInside (a .order) ≡ true → kOutcome scaled v (ofBits binary64 0x8000000000000001) im length ≡ refusedOutcome Sign length
+k-below-zero scaled v im length l f o = refused-by scaled v (ofBits binary64 0x8000000000000001) im length Sign (below-by v im length l f o)

@@ -2,7 +2,7 @@
 use mathlib.Core.Path.{_≡_, refl, sym, ap, _∙_, subst}
 use mathlib.Core.Logic.{_⊎_, inl, inr}
 use mathlib.Core.Bool.{Bool, true, false}
-use mathlib.Core.List.{List, [], _∷_}
+use mathlib.Core.List.{List, [], _∷_, _++_}
 use Prim.Native.Nat.{ℕ, zero, suc, _-_, _*_, _/_, _≤_, _<_}
 use native.Mathlib.Omega.{arith}
 use lib.Dec.{T}
@@ -16,7 +16,8 @@ use Rattle.refusal.proofs.Distinct.{never-zero}
 use Rattle.call.specs.declared.answer.Answer.{Answer}
 use Rattle.call.specs.Answer.{signedOf, answeredOf}
 use Rattle.call.specs.Checks.{refusedIf, verdictFrom, verdictOf, numberGiven, noneApplies, numbersOf, lengthChecks, finiteChecks, limitChecks}
-use Rattle.call.proofs.FirstFacts.{Given, isOneOf}
+use Rattle.call.proofs.FirstFacts.{Given, isOneOf, none-or-listed}
+use Rattle.call.proofs.WhichLimit.{HitsLimit, hits-limit}
 use Rattle.call.proofs.LimitFacts.{lent}
 use Rattle.power_series.specs.Visit.{Visited}
 use Rattle.bessel.specs.declared.arguments.Arguments.{Arguments}
@@ -26,7 +27,7 @@ use Rattle.bessel.specs.Outcome.{Outcome, Delivered, judgedOf, concluded
 use Rattle.bessel.specs.Series.{visitedBy, visitAnswer, visitSteps, seriesOutcome, visitChecks, allSeriesChecks}
 use Rattle.bessel.proofs.CheckFacts.{series-passed}
 use Rattle.power_series.proofs.SeriesFacts.{series-fits}
-use Rattle.bessel.proofs.CallFacts.{judged-number, RefusedWhole, refused-facts, Ended, refused, answered, ends, numbered, one-of}
+use Rattle.bessel.proofs.CallFacts.{judged-number, RefusedWhole, refused-facts, Ended, refused, answered, ends, numbered}
 
 answer-number : (w : Visited) → visitAnswer w .number ≡ 0
 unfolding visitAnswer answeredOf
@@ -41,7 +42,7 @@ unfolding verdictOf verdictFrom refusedIf visitChecks visitSteps concludedOf jud
 later-number length w = judged-number (allFinite (finishedOf w)) length (visitAnswer w) (w .cells) (answer-number w)
 
 -- the numbers that the power series can give besides 0, in the order of the checks
-pub listed : (scaled turned : Bool) (a : Arguments) (length : ℕ) → numbersOf (allSeriesChecks scaled turned a length) ≡ 1 ∷ 2 ∷ 3 ∷ 3 ∷ 3 ∷ 5 ∷ 8 ∷ []
+pub listed : (scaled turned : Bool) (a : Arguments) (length : ℕ) → numbersOf (allSeriesChecks scaled turned a length) ≡ 1 ∷ 2 ∷ 3 ∷ 11 ∷ 12 ∷ 5 ∷ 8 ∷ []
 unfolding numbersOf allSeriesChecks seriesChecks seriesOwnChecks argumentChecks lengthChecks finiteChecks limitChecks visitChecks
 listed scaled turned a length = refl
 
@@ -76,10 +77,18 @@ module _ (scaled turned : Bool) (v re im : Float) (length : ℕ) where
       numbered (seriesChecks a length) (visitChecks w) length (visitSteps w) (later-number length w)
 
   -- so no number but these
-  pub admitted : T (isOneOf (seriesOutcome scaled turned v re im length .answer .number) (0 ∷ 1 ∷ 2 ∷ 3 ∷ 5 ∷ 8 ∷ []))
+  pub admitted : T (isOneOf (seriesOutcome scaled turned v re im length .answer .number) (0 ∷ 1 ∷ 2 ∷ 3 ∷ 11 ∷ 12 ∷ 5 ∷ 8 ∷ []))
   admitted =
-      let cs = allSeriesChecks scaled turned (argumentsOf v re im) length in
-      one-of (seriesOutcome scaled turned v re im length .answer .number) cs (5 ∷ 8 ∷ []) numbers (listed scaled turned (argumentsOf v re im) length)
+      let a = argumentsOf v re im in
+      none-or-listed (allSeriesChecks scaled turned a length) (seriesOutcome scaled turned v re im length .answer .number) (1 ∷ 2 ∷ 3 ∷ 11 ∷ 12 ∷ 5 ∷ 8 ∷ []) numbers (listed scaled turned a length)
+
+  -- 3, 11 and 12 by the limit that was hit
+  pub limits : let a = argumentsOf v re im in HitsLimit length (a .order) (a .z .re) (a .z .im) (seriesOutcome scaled turned v re im length .answer .number)
+  unfolding allSeriesChecks seriesChecks seriesOwnChecks argumentChecks visitChecks lengthChecks finiteChecks limitChecks numbersOf
+  limits =
+      let a = argumentsOf v re im in
+      hits-limit length (a .order) (a .z .re) (a .z .im) (seriesOwnChecks a length ++ visitChecks (visitedBy scaled turned a length)) (seriesOutcome scaled turned v re im length .answer .number)
+      numbers refl refl refl
 
   -- ---- how a call ends
   delivered :

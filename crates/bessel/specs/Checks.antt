@@ -7,7 +7,7 @@ use Rattle.call.specs.Checks.{Check, check, lengthChecks, finiteChecks, limitCh
 use Rattle.power_series.specs.Series.{beyondSeries}
 use Rattle.bessel.specs.declared.arguments.Arguments.{Arguments}
 
--- refusals 1, 2 and 3
+-- refusals 1, 2, 3, 11 and 12
 unfoldable pub argumentChecks : Arguments → ℕ → List Check
 argumentChecks a length =
     lengthChecks length ++ (finiteChecks (a .order) (a .z .re) (a .z .im) ++ limitChecks (a .order) (a .z .re) (a .z .im))

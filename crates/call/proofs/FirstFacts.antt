@@ -2,7 +2,8 @@
 use mathlib.Core.Path.{_≡_, refl, sym, ap, _∙_, subst}
 use mathlib.Core.Bool.{Bool, true, false, not, cond, _&&_, _||_}
 use mathlib.Core.List.{List, [], _∷_, _++_}
-use Prim.Native.Nat.{ℕ, _<_}
+use Prim.Native.Nat.{ℕ, zero, suc, _<_}
+use native.Mathlib.Nat.{zero-lt-suc}
 use native.Mathlib.Omega.{arith}
 use lib.Dec.{T, eqb, eqb→eq}
 use borrow.Author.Tests.{eq-eqb}
@@ -160,6 +161,38 @@ unfolding isFirst numbersOf
 first-listed [] n e = e
 first-listed (c ∷ cs) n e = listed-step (eqb (numberOf (c .refusal)) n) (c .applies) (isFirst n cs) (isOneOf n (numbersOf cs)) (first-listed cs n) e
 
+-- ---- a number that stands once in a list: its check is the first exactly when it applies and none before it does
+unlisted : (cs : List Check) (n : ℕ) → isOneOf n (numbersOf cs) ≡ false → isFirst n cs ≡ false
+unlisted cs n e = by (isFirst n cs) refl
+  where
+    by : (b : Bool) → isFirst n cs ≡ b → isFirst n cs ≡ false
+    by true f = f ∙ sym (first-listed cs n f) ∙ e
+    by false f = f
+
+neither : (a b : Bool) → (a || b) ≡ false → (a ≡ false) × (b ≡ false)
+neither true b e = absurd (let z : _≡_ {A = ℕ} 0 1 = cc in omega arith)
+neither false b e = (refl, e)
+
+at-here : (d b x : Bool) → d ≡ true → x ≡ false → cond d (b || x) (not b && x) ≡ b
+at-here true true x p e = refl
+at-here true false x p e = e
+at-here false b x p e = absurd (let z : _≡_ {A = ℕ} 0 1 = cc in omega arith)
+
+at-later : (d a x y b : Bool) → d ≡ false → x ≡ (y && b) → cond d (a || x) (not a && x) ≡ ((not a && y) && b)
+at-later true a x y b p e = absurd (let z : _≡_ {A = ℕ} 0 1 = cc in omega arith)
+at-later false a x y b p e = ap (λ (t : Bool). not a && t) e ∙ sym (and-assoc (not a) y b)
+
+first-at : (before : List Check) (here : Check) (after : List Check) → let n = numberOf (here .refusal) in
+    isOneOf n (numbersOf before) ≡ false → isOneOf n (numbersOf after) ≡ false → isFirst n (before ++ (here ∷ after)) ≡ (noneApplies before && here .applies)
+unfolding isFirst noneApplies numbersOf
+first-at [] here after p q =
+    let n = numberOf (here .refusal) in
+    at-here (eqb n n) (here .applies) (isFirst n after) (eq-eqb n n refl) (unlisted after n q)
+first-at (c ∷ cs) here after p q =
+    let n = numberOf (here .refusal) in
+    let e = neither (eqb (numberOf (c .refusal)) n) (isOneOf n (numbersOf cs)) p in
+    at-later (eqb (numberOf (c .refusal)) n) (c .applies) (isFirst n (cs ++ (here ∷ after))) (noneApplies cs) (here .applies) (e .0) (first-at cs here after (e .1) q)
+
 -- ---- of the number m that a call with these checks gets
 pub record Given (cs : List Check) (m : ℕ) : Type 0 where
   pub number : (n : ℕ) → 0 < n → Exactly (m ≡ n) (isFirst n cs)
@@ -179,6 +212,22 @@ given cs =
     true-of : (b : Bool) → T b → b ≡ true
     true-of true t = refl
     true-of false t = absurd t
+
+-- 0, or one of its list's
+pub none-or-listed : (cs : List Check) (m : ℕ) (numbers : List ℕ) → Given cs m → numbersOf cs ≡ numbers → T (isOneOf m (0 ∷ numbers))
+none-or-listed cs zero numbers g e = tt
+none-or-listed cs (suc n) numbers g e = later (eqb 0 (suc n)) (isOneOf (suc n) numbers) (subst (λ (l : List ℕ). T (isOneOf (suc n) l)) e (g .only (suc n) (zero-lt-suc n) refl))
+  where
+    later : (z b : Bool) → T b → T (z || b)
+    later true b t = tt
+    later false b t = t
+
+-- where a number stands once in the list, it is given exactly when its own check applies and none before it does
+pub given-at : (before : List Check) (here : Check) (after : List Check) (m : ℕ) → let n = numberOf (here .refusal) in
+    Given (before ++ (here ∷ after)) m → isOneOf n (numbersOf before) ≡ false → isOneOf n (numbersOf after) ≡ false → Exactly (m ≡ n) (noneApplies before && here .applies)
+given-at before here after m g p q =
+    let n = numberOf (here .refusal) in
+    subst (Exactly (m ≡ n)) (first-at before here after p q) (g .number n (never-zero (here .refusal)))
 
 -- the theorem: refused by r exactly when r is that of the first check that applies, admitted exactly when none applies
 pub record FirstDecides (cs : List Check) : Type 0 where

@@ -6,7 +6,7 @@ use lib.Dec.{eqb}
 use lib.Ieee.{Float}
 use Rattle.refusal.specs.Number.{numberOf}
 use Rattle.refusal.specs.declared.refusal.Refusal.{Refusal}
-use Rattle.refusal.specs.declared.refusal.Refusal.the-variants.{Length, NotFinite, Domain}
+use Rattle.refusal.specs.declared.refusal.Refusal.the-variants.{Length, NotFinite, Order, Sign, Size}
 use Rattle.call.specs.Limits.{lengthInside, areFinite, orderInside, signInside, sizeInside}
 use Rattle.call.specs.declared.checks.Verdict.{Verdict}
 use Rattle.call.specs.declared.checks.Verdict.the-variants.{Admitted, Refused}
@@ -46,9 +46,9 @@ finiteChecks v re im = check (not (areFinite v re im)) NotFinite ∷ []
 -- the order first, then the sign of the real part, then the size of the parts
 unfoldable pub limitChecks : Float → Float → Float → List Check
 limitChecks v re im =
-    check (not (orderInside v)) Domain
-    ∷ check (not (signInside re)) Domain
-    ∷ check (not (sizeInside re im)) Domain
+    check (not (orderInside v)) Order
+    ∷ check (not (signInside re)) Sign
+    ∷ check (not (sizeInside re im)) Size
     ∷ []
 
 -- ---- what a list says of a number, and of being admitted

@@ -45,8 +45,8 @@ impl Verdict {
     pub fn limits_checked(self, v: f64, re: f64, im: f64) -> Verdict
         ensures { λ r. ⌜ r ≡ verdictFrom self (limitChecks v re im) ⌝ }
     {
-        self.refused_if(!order_inside(v), Refusal::Domain)
-            .refused_if(!sign_inside(re), Refusal::Domain)
-            .refused_if(!size_inside(re, im), Refusal::Domain)
+        self.refused_if(!order_inside(v), Refusal::Order)
+            .refused_if(!sign_inside(re), Refusal::Sign)
+            .refused_if(!size_inside(re, im), Refusal::Size)
     }
 }

@@ -2,8 +2,8 @@
 -- That the code does what the definitions say stands as each function's contract in its source; every one is proved. Assumes nothing.
 use mathlib.Core.Path.{_≡_, refl, ap}
 use mathlib.Core.Logic.{_⊎_}
-use mathlib.Core.Bool.{Bool, true, false, not}
-use mathlib.Core.List.{List, [], _∷_}
+use mathlib.Core.Bool.{Bool, true, false, not, _&&_}
+use mathlib.Core.List.{List, [], _∷_, _++_}
 use Prim.Native.Nat.{ℕ, _+_, _-_, _*_, _/_, _≤_, _<_}
 use lib.Dec.{T}
 use lib.Ieee.{Float, binary64, fits, toBits, lt, eq, inUnsigned}
@@ -12,7 +12,7 @@ use lib.Ieee.Scale.{finite}
 use lib.ListN.{take, getD, length as length-of}
 use Rattle.call.specs.declared.answer.Answer.{Answer}
 use Rattle.call.specs.Checks.{Check, noneApplies, numbersOf, check, lengthChecks, finiteChecks, limitChecks}
-use Rattle.call.proofs.FirstFacts.{Given, isOneOf, FirstDecides, first-decides}
+use Rattle.call.proofs.FirstFacts.{Exactly, Given, given-at, isOneOf, FirstDecides, first-decides}
 use Rattle.complex.specs.declared.number.Complex.{Complex}
 use Rattle.gamma_ln.specs.GammaLn.{gammaLnOf, seriesArgumentOf}
 use Rattle.gamma_ln.specs.LogGamma.{logGammaOf, outcomeAt}
@@ -47,7 +47,7 @@ use Rattle.right_half_plane.specs.Kernel.{kernelOf}
 use Rattle.right_half_plane.specs.Reach.{stepsOf}
 use Rattle.right_half_plane.specs.Refusals.{startRefused, climbRefused, noNeighbours, climbEnd}
 use Rattle.right_half_plane.proofs.RefusalFacts.{refuses, start-exactly, climb-exactly, all-offsets}
-use Rattle.refusal.specs.declared.refusal.Refusal.the-variants.{Start, Climb, Length, NotFinite, Domain, Zero, Series, Overflow}
+use Rattle.refusal.specs.declared.refusal.Refusal.the-variants.{Start, Climb, Length, NotFinite, Order, Sign, Size, Zero, Series, Overflow}
 use Rattle.series_step.specs.declared.setting.Setting.{Setting}
 use Rattle.series_step.specs.declared.descent.Descent.{Descent}
 use Rattle.series_step.specs.Step.{stepOf}
@@ -102,32 +102,37 @@ use Rattle.capi.specs.Outcome.{isScaled, answerOf, outcomeOf as exportedLogGamm
 use Rattle.claims.proofs.Determined.{Determined, Gives, one-result, one-outcome}
 use Rattle.claims.proofs.Routines.{OneResult, OfRoutines, of-routines}
 use Rattle.claims.proofs.Rows.{Rows, rows}
-use Rattle.claims.proofs.Lines.{nine-exactly}
+use Rattle.claims.proofs.Numbers.{NumberOfK, NumberOfSeries, number-of-k, number-of-series}
+use Rattle.claims.proofs.Lines.{nine-exactly, line-number-k, line-number-i, line-no-other}
+use Rattle.refusal.specs.Number.{numberOf as refusal-number}
 
 -- ---- any call: refused by the first of its checks that applies, admitted exactly when none does
 pub record OfChecks : Type 0 where
   pub first : (checks : List Check) → FirstDecides checks
+  -- a number that stands once in a list is given exactly when its own check applies and none before it does
+  pub once :
+      (before : List Check) (here : Check) (after : List Check) (m : ℕ) → let n = refusal-number (here .refusal) in
+      Given (before ++ (here ∷ after)) m → isOneOf n (numbersOf before) ≡ false → isOneOf n (numbersOf after) ≡ false → Exactly (m ≡ n) (noneApplies before && here .applies)
 
 of-checks : OfChecks
-of-checks = record { first = first-decides }
+of-checks = record { first = first-decides; once = given-at }
 
 -- ---- K
 pub record OfK : Type 0 where
   -- the contract of `k` gives the record and the cells: no second outcome fits it. `kOutcome` has no argument for what the cells held before
   pub one-outcome : (scaled : Bool) (v re im : Float) (length : ℕ) → let o = kOutcome scaled v re im length in Determined (Gives (o .answer) (o .cells))
-  -- each number exactly when its check is the first that applies, 0 exactly when none does, and no number but those of the list
-  pub numbers : (scaled : Bool) (v re im : Float) (length : ℕ) → Given (allKChecks scaled (argumentsOf v re im) length) (kOutcome scaled v re im length .answer .number)
-  pub listed : (scaled : Bool) (a : Arguments) (length : ℕ) → numbersOf (allKChecks scaled a length) ≡ 1 ∷ 2 ∷ 3 ∷ 3 ∷ 3 ∷ 4 ∷ 6 ∷ 7 ∷ 8 ∷ []
-  pub no-other : (scaled : Bool) (v re im : Float) (length : ℕ) → T (isOneOf (kOutcome scaled v re im length .answer .number) (0 ∷ 1 ∷ 2 ∷ 3 ∷ 4 ∷ 6 ∷ 7 ∷ 8 ∷ []))
+  -- each number exactly when its check is the first that applies, 0 exactly when none does; 3, 11 and 12 by the limit that was hit; no number but those of the list
+  pub number : (scaled : Bool) (v re im : Float) (length : ℕ) → NumberOfK scaled v re im length (kOutcome scaled v re im length .answer .number)
+  pub listed : (scaled : Bool) (a : Arguments) (length : ℕ) → numbersOf (allKChecks scaled a length) ≡ 1 ∷ 2 ∷ 3 ∷ 11 ∷ 12 ∷ 4 ∷ 6 ∷ 7 ∷ 8 ∷ []
   -- the list itself: the conditions in their order, over the call's own arguments and steps
   pub table :
       (scaled : Bool) (a : Arguments) (length : ℕ) →
       allKChecks scaled a length
       ≡ check (not (lengthInside length)) Length
       ∷ check (not (areFinite (a .order) (a .z .re) (a .z .im))) NotFinite
-      ∷ check (not (orderInside (a .order))) Domain
-      ∷ check (not (signInside (a .z .re))) Domain
-      ∷ check (not (sizeInside (a .z .re) (a .z .im))) Domain
+      ∷ check (not (orderInside (a .order))) Order
+      ∷ check (not (signInside (a .z .re))) Sign
+      ∷ check (not (sizeInside (a .z .re) (a .z .im))) Size
       ∷ check (isZero (a .z .re) (a .z .im)) Zero
       ∷ check (startRefused (groundBy a length)) Start
       ∷ check (climbRefused (groundBy a length) scaled) Climb
@@ -173,9 +178,8 @@ of-k : OfK
 unfolding allKChecks kChecks kOwnChecks argumentChecks lengthChecks finiteChecks limitChecks kernelChecks
 of-k = record {
   one-outcome = λ scaled v re im length. let o = kOutcome scaled v re im length in one-outcome (o .answer) (o .cells);
-  numbers = k.numbers;
+  number = number-of-k;
   listed = k.listed;
-  no-other = k.admitted;
   table = λ scaled a length. refl;
   zero-order = λ scaled v re im length. k-order scaled false v re im length;
   zero-part = λ scaled v re im length. k-part scaled false v re im length;
@@ -197,20 +201,16 @@ of-k = record {
 pub record OfSeries : Type 0 where
   pub one-outcome :
       (scaled turned : Bool) (v re im : Float) (length : ℕ) → let o = seriesOutcome scaled turned v re im length in Determined (Gives (o .answer) (o .cells))
-  pub numbers :
-      (scaled turned : Bool) (v re im : Float) (length : ℕ) →
-      Given (allSeriesChecks scaled turned (argumentsOf v re im) length) (seriesOutcome scaled turned v re im length .answer .number)
-  pub listed : (scaled turned : Bool) (a : Arguments) (length : ℕ) → numbersOf (allSeriesChecks scaled turned a length) ≡ 1 ∷ 2 ∷ 3 ∷ 3 ∷ 3 ∷ 5 ∷ 8 ∷ []
-  pub no-other :
-      (scaled turned : Bool) (v re im : Float) (length : ℕ) → T (isOneOf (seriesOutcome scaled turned v re im length .answer .number) (0 ∷ 1 ∷ 2 ∷ 3 ∷ 5 ∷ 8 ∷ []))
+  pub number : (scaled turned : Bool) (v re im : Float) (length : ℕ) → NumberOfSeries scaled turned v re im length (seriesOutcome scaled turned v re im length .answer .number)
+  pub listed : (scaled turned : Bool) (a : Arguments) (length : ℕ) → numbersOf (allSeriesChecks scaled turned a length) ≡ 1 ∷ 2 ∷ 3 ∷ 11 ∷ 12 ∷ 5 ∷ 8 ∷ []
   pub table :
       (scaled turned : Bool) (a : Arguments) (length : ℕ) →
       allSeriesChecks scaled turned a length
       ≡ check (not (lengthInside length)) Length
       ∷ check (not (areFinite (a .order) (a .z .re) (a .z .im))) NotFinite
-      ∷ check (not (orderInside (a .order))) Domain
-      ∷ check (not (signInside (a .z .re))) Domain
-      ∷ check (not (sizeInside (a .z .re) (a .z .im))) Domain
+      ∷ check (not (orderInside (a .order))) Order
+      ∷ check (not (signInside (a .z .re))) Sign
+      ∷ check (not (sizeInside (a .z .re) (a .z .im))) Size
       ∷ check (beyondSeries (a .order) (length / 2) (a .modulus)) Series
       ∷ check (not (allFinite (i.finishedOf (visitedBy scaled turned a length)))) Overflow
       ∷ []
@@ -251,9 +251,8 @@ of-series : OfSeries
 unfolding allSeriesChecks seriesChecks seriesOwnChecks argumentChecks lengthChecks finiteChecks limitChecks visitChecks
 of-series = record {
   one-outcome = λ scaled turned v re im length. let o = seriesOutcome scaled turned v re im length in one-outcome (o .answer) (o .cells);
-  numbers = i.numbers;
+  number = number-of-series;
   listed = i.listed;
-  no-other = i.admitted;
   table = λ scaled turned a length. refl;
   zero-order = series-order;
   zero-part = series-part;
@@ -273,15 +272,14 @@ of-series = record {
 pub record OfI : Type 0 where
   pub as-series : (scaled : Bool) (v re im : Float) (length : ℕ) → iOutcome scaled v re im length ≡ seriesOutcome scaled false v re im length
   pub one-outcome : (scaled : Bool) (v re im : Float) (length : ℕ) → let o = iOutcome scaled v re im length in Determined (Gives (o .answer) (o .cells))
-  pub numbers : (scaled : Bool) (v re im : Float) (length : ℕ) → Given (allSeriesChecks scaled false (argumentsOf v re im) length) (iOutcome scaled v re im length .answer .number)
-  pub no-other : (scaled : Bool) (v re im : Float) (length : ℕ) → T (isOneOf (iOutcome scaled v re im length .answer .number) (0 ∷ 1 ∷ 2 ∷ 3 ∷ 5 ∷ 8 ∷ []))
+  pub number : (scaled : Bool) (v re im : Float) (length : ℕ) → NumberOfSeries scaled false v re im length (iOutcome scaled v re im length .answer .number)
   pub whole :
       (scaled : Bool) (v re im : Float) (length : ℕ) →
       RefusedWhole length (iOutcome scaled v re im length) ⊎ i.AnsweredWhole scaled false (argumentsOf v re im) length (iOutcome scaled v re im length)
   pub counts :
       (scaled : Bool) (v re im : Float) (length : ℕ) → iOutcome scaled v re im length .answer .number ≡ 0 →
       i.Counted scaled false (argumentsOf v re im) length (iOutcome scaled v re im length)
-  pub listed : (scaled : Bool) (a : Arguments) (length : ℕ) → numbersOf (allSeriesChecks scaled false a length) ≡ 1 ∷ 2 ∷ 3 ∷ 3 ∷ 3 ∷ 5 ∷ 8 ∷ []
+  pub listed : (scaled : Bool) (a : Arguments) (length : ℕ) → numbersOf (allSeriesChecks scaled false a length) ≡ 1 ∷ 2 ∷ 3 ∷ 11 ∷ 12 ∷ 5 ∷ 8 ∷ []
   pub sums : (scaled : Bool) (v re im : Float) (length : ℕ) → T (fits binary64 re) → T (fits binary64 im) → iOutcome scaled v re im length .answer .number ≡ 0 →
       (at : ℕ) → let a = argumentsOf v re im in let g = series.settingOf scaled false (a .order) (a .z) (a .modulus) in let u = orderPlusOne (a .order) (walkAfter g (length / 2) at .standing .left - 1) in
       Wanted (walkAfter g (length / 2) at) → sumIsOne (halfSquare (a .modulus)) u ≡ false → EndsByTest (g .«half_z_sq») (halfSquare (a .modulus)) u
@@ -294,8 +292,7 @@ unfolding iOutcome
 of-i = record {
   as-series = λ scaled v re im length. refl;
   one-outcome = λ scaled v re im length. let o = iOutcome scaled v re im length in one-outcome (o .answer) (o .cells);
-  numbers = λ scaled v re im length. i.numbers scaled false v re im length;
-  no-other = λ scaled v re im length. i.admitted scaled false v re im length;
+  number = λ scaled v re im length. number-of-series scaled false v re im length;
   whole = λ scaled v re im length. i.whole scaled false v re im length;
   counts = λ scaled v re im length. i.answered-counts scaled false v re im length;
   listed = λ scaled a length. i.listed scaled false a length;
@@ -342,13 +339,19 @@ pub record OfExports : Type 0 where
   pub k :
       (scaled : ℕ) (v re im : Float) (length : ℕ) →
       let o = kOutcome (isScaled scaled) v re im length in Determined (Gives (answerOf (o .answer)) (o .cells))
+  -- the numbers that C is handed are those of K and of I
+  pub i-number : (scaled : ℕ) (v re im : Float) (length : ℕ) → NumberOfSeries (isScaled scaled) false v re im length (answerOf (iOutcome (isScaled scaled) v re im length .answer) .number)
+  pub k-number : (scaled : ℕ) (v re im : Float) (length : ℕ) → NumberOfK (isScaled scaled) v re im length (answerOf (kOutcome (isScaled scaled) v re im length .answer) .number)
 
 of-exports : OfExports
+unfolding iOutcome
 of-exports = record {
   routines = of-routines .one-result;
   log-gamma = λ x. one-result (exportedLogGamma (logGammaOf x));
   i = λ scaled v re im length. let o = iOutcome (isScaled scaled) v re im length in one-outcome (answerOf (o .answer)) (o .cells);
   k = λ scaled v re im length. let o = kOutcome (isScaled scaled) v re im length in one-outcome (answerOf (o .answer)) (o .cells);
+  i-number = λ scaled v re im length. number-of-series (isScaled scaled) false v re im length;
+  k-number = λ scaled v re im length. number-of-k (isScaled scaled) v re im length;
 }
 
 -- ---- lines, with no kernel beneath them: what is written is read back, and what is read is what was written
@@ -382,8 +385,15 @@ pub record OfLines : Type 0 where
   pub framed : (line : List ℕ) (f : Fields) → framedOf line ≡ Frame f → parsedOf line ≡ askedOf f
   pub unframed : (line : List ℕ) → framedOf line ≡ NoFrame → parsedOf line ≡ Malformed
   pub other-length : (line : List ℕ) → (length-of line ≡ askingLength → ⊥) → parsedOf line ≡ Malformed
-  -- the first two digits are the outcome's number; 9 exactly for a malformed line
+  -- the first two digits are the outcome's number, of which is true what is said of K's and of I's; 9 exactly for a malformed line; no number but these
   pub number : (line : List ℕ) → numberOf (take byteWidth (answerLineOf line)) ≡ outcomeOf (parsedOf line) .answer .number
+  pub k-number :
+      (line : List ℕ) (a : Asking) → parsedOf line ≡ Asked a → a .kind ≡ K →
+      NumberOfK (a .scaled) (a .v) (a .re) (a .im) (a .count * 2) (numberOf (take byteWidth (answerLineOf line)))
+  pub i-number :
+      (line : List ℕ) (a : Asking) → parsedOf line ≡ Asked a → a .kind ≡ I →
+      NumberOfSeries (a .scaled) false (a .v) (a .re) (a .im) (a .count * 2) (numberOf (take byteWidth (answerLineOf line)))
+  pub no-other : (line : List ℕ) → T (isOneOf (numberOf (take byteWidth (answerLineOf line))) (0 ∷ 9 ∷ 1 ∷ 2 ∷ 3 ∷ 11 ∷ 12 ∷ 4 ∷ 5 ∷ 6 ∷ 7 ∷ 8 ∷ []))
   pub malformed : (line : List ℕ) → let number = numberOf (take byteWidth (answerLineOf line)) in (number ≡ 9 → parsedOf line ≡ Malformed) × (parsedOf line ≡ Malformed → number ≡ 9)
   -- 18 digits, and 32 more a pair behind the number 0
   pub refused-length : (line : List ℕ) → (outcomeOf (parsedOf line) .answer .number ≡ 0 → ⊥) → length-of (answerLineOf line) ≡ recordLength
@@ -406,6 +416,9 @@ of-lines = record {
   unframed = λ line e. ap askedIn e;
   other-length = other-length;
   number = number-read;
+  k-number = line-number-k;
+  i-number = line-number-i;
+  no-other = line-no-other;
   malformed = nine-exactly;
   refused-length = refused-length;
   answered-length = pairs-length;

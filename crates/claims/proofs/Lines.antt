@@ -1,9 +1,10 @@
--- The number 9 is given exactly to a malformed line. Assumes nothing.
+-- The number of an answer line: that of the call asked for, 9 exactly for a malformed line, and no number but these. Assumes nothing.
 use mathlib.Core.Path.{_≡_, refl, sym, ap, _∙_, subst}
-use mathlib.Core.Bool.{false}
-use mathlib.Core.List.{List}
+use mathlib.Core.Bool.{Bool, true, false, _||_, _&&_}
+use mathlib.Core.List.{List, [], _∷_}
 use Prim.Native.Nat.{ℕ, _*_}
-use lib.Dec.{T, lit<}
+use lib.Dec.{T, lit<, eqb, eqb→eq}
+use lib.Ieee.Fits.{and-l, and-r}
 use lib.ListN.{take}
 use Rattle.refusal.specs.Number.{numberOf as refusal-number}
 use Rattle.refusal.specs.declared.refusal.Refusal.the-variants as refusals
@@ -25,6 +26,7 @@ use Rattle.frame.specs.Asking.{parsedOf}
 use Rattle.answering.specs.Called.{calledAs, calledOf}
 use Rattle.answering.specs.Line.{outcomeOf, answerLineOf}
 use Rattle.answering.proofs.AnswerLines.{number-read}
+use Rattle.claims.proofs.Numbers.{NumberOfK, NumberOfSeries, number-of-k, number-of-series}
 
 -- 9 is in neither list
 called-never : (kind : Kind) (a : Asking) (length : ℕ) → calledAs kind a length .answer .number ≡ 9 → ⊥
@@ -47,3 +49,55 @@ nine-outcome = refl
 
 pub nine-exactly : (line : List ℕ) → let number = numberOf (take byteWidth (answerLineOf line)) in (number ≡ 9 → parsedOf line ≡ Malformed) × (parsedOf line ≡ Malformed → number ≡ 9)
 nine-exactly line = (λ e. outcome-nine (parsedOf line) (sym (number-read line) ∙ e), λ e. number-read line ∙ ap (λ (p : Parsed). outcomeOf p .answer .number) e ∙ nine-outcome)
+
+-- ---- the number of a frame's answer is that of the call that it asks for
+pub line-number-k : (line : List ℕ) (a : Asking) → parsedOf line ≡ Asked a → a .kind ≡ K →
+    NumberOfK (a .scaled) (a .v) (a .re) (a .im) (a .count * 2) (numberOf (take byteWidth (answerLineOf line)))
+unfolding outcomeOf calledOf calledAs
+line-number-k line a e h =
+    let n = a .count * 2 in
+    subst (NumberOfK (a .scaled) (a .v) (a .re) (a .im) n)
+    (sym (number-read line ∙ ap (λ (p : Parsed). outcomeOf p .answer .number) e ∙ ap (λ (kind : Kind). calledAs kind a n .answer .number) h))
+    (number-of-k (a .scaled) (a .v) (a .re) (a .im) n)
+
+pub line-number-i : (line : List ℕ) (a : Asking) → parsedOf line ≡ Asked a → a .kind ≡ I →
+    NumberOfSeries (a .scaled) false (a .v) (a .re) (a .im) (a .count * 2) (numberOf (take byteWidth (answerLineOf line)))
+unfolding outcomeOf calledOf calledAs iOutcome
+line-number-i line a e h =
+    let n = a .count * 2 in
+    subst (NumberOfSeries (a .scaled) false (a .v) (a .re) (a .im) n)
+    (sym (number-read line ∙ ap (λ (p : Parsed). outcomeOf p .answer .number) e ∙ ap (λ (kind : Kind). calledAs kind a n .answer .number) h))
+    (number-of-series (a .scaled) false (a .v) (a .re) (a .im) n)
+
+-- ---- no number but these: a list within another
+within : List ℕ → List ℕ → Bool
+within [] ys = true
+within (x ∷ xs) ys = isOneOf x ys && within xs ys
+
+wider : (m : ℕ) (xs ys : List ℕ) → T (within xs ys) → T (isOneOf m xs) → T (isOneOf m ys)
+unfolding within
+wider m [] ys w t = absurd t
+wider m (x ∷ xs) ys w t = by (eqb x m) refl t
+  where
+    by : (b : Bool) → eqb x m ≡ b → T (b || isOneOf m xs) → T (isOneOf m ys)
+    by true e u = subst (λ (n : ℕ). T (isOneOf n ys)) (eqb→eq x m (subst T (sym e) tt)) (and-l (isOneOf x ys) (within xs ys) w)
+    by false e u = wider m xs ys (and-r (isOneOf x ys) (within xs ys) w) u
+
+-- 0, the program's 9, and what K and I can give
+abbrev lineNumbers : List ℕ
+lineNumbers = 0 ∷ 9 ∷ 1 ∷ 2 ∷ 3 ∷ 11 ∷ 12 ∷ 4 ∷ 5 ∷ 6 ∷ 7 ∷ 8 ∷ []
+
+called-listed : (kind : Kind) (a : Asking) (n : ℕ) → T (isOneOf (calledAs kind a n .answer .number) lineNumbers)
+unfolding calledAs iOutcome within
+called-listed K a n =
+    wider _ (0 ∷ 1 ∷ 2 ∷ 3 ∷ 11 ∷ 12 ∷ 4 ∷ 6 ∷ 7 ∷ 8 ∷ []) lineNumbers tt (number-of-k (a .scaled) (a .v) (a .re) (a .im) n .no-other)
+called-listed I a n =
+    wider _ (0 ∷ 1 ∷ 2 ∷ 3 ∷ 11 ∷ 12 ∷ 5 ∷ 8 ∷ []) lineNumbers tt (number-of-series (a .scaled) false (a .v) (a .re) (a .im) n .no-other)
+
+outcome-listed : (p : Parsed) → T (isOneOf (outcomeOf p .answer .number) lineNumbers)
+unfolding outcomeOf calledOf refusedOutcome refusedOf
+outcome-listed (Asked a) = called-listed (a .kind) a (a .count * 2)
+outcome-listed Malformed = tt
+
+pub line-no-other : (line : List ℕ) → T (isOneOf (numberOf (take byteWidth (answerLineOf line))) lineNumbers)
+line-no-other line = subst (λ (n : ℕ). T (isOneOf n lineNumbers)) (sym (number-read line)) (outcome-listed (parsedOf line))

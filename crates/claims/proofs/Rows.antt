@@ -5,7 +5,7 @@ use mathlib.Core.List.{[], _∷_}
 use Prim.Native.Nat.{ℕ}
 use lib.IntN.{pos, negsuc}
 use lib.Ieee.{Float, nan, fin, binary64, ofBits, toUnsigned}
-use Rattle.refusal.specs.declared.refusal.Refusal.the-variants.{Length, NotFinite, Domain, Series, NotPositive}
+use Rattle.refusal.specs.declared.refusal.Refusal.the-variants.{Length, NotFinite, Sign, Series, NotPositive}
 use Rattle.roots.specs.Sqrt.{sqrtOf}
 use Rattle.roots.proofs.SqrtValues.{sqrt-of-four, sqrt-of-smallest}
 use Rattle.rounding.specs.Round.{roundOf}
@@ -18,7 +18,7 @@ use Rattle.gamma_ln.proofs.LogGammaFacts.{of-one, of-two, of-zero}
 use Rattle.right_half_plane.specs.Ground.{nearestOrder}
 use Rattle.machine.specs.Small.{nothing, one}
 use Rattle.call.specs.Answer.{answeredOf}
-use Rattle.call.specs.Limits.{lengthInside, areFinite}
+use Rattle.call.specs.Limits.{lengthInside, areFinite, orderInside}
 use Rattle.bessel.specs.Arguments.{argumentsOf}
 use Rattle.bessel.specs.Outcome.{refusedOutcome}
 use Rattle.bessel.specs.I.{iOutcome}
@@ -32,8 +32,8 @@ pub record Rows : Type 0 where
   pub i-near-zero : (scaled : Bool) → iOutcome scaled nothing (ofBits binary64 0x0000000400000000) nothing 6 ≡ record { answer = answeredOf (pos 2) 0 0 0; cells = one ∷ nothing ∷ nothing ∷ nothing ∷ nothing ∷ nothing ∷ [] }
   -- K at an order that is not a number and z = 0: refusal 2
   pub k-order-not-a-number : (scaled : Bool) (length : ℕ) → lengthInside length ≡ true → kOutcome scaled nan nothing nothing length ≡ refusedOutcome NotFinite length
-  -- K at re = -2^-1074: refusal 3
-  pub k-left-of-zero : (scaled : Bool) (v im : Float) (length : ℕ) → let a = argumentsOf v (ofBits binary64 0x8000000000000001) im in lengthInside length ≡ true → areFinite (a .order) (a .z .re) (a .z .im) ≡ true → kOutcome scaled v (ofBits binary64 0x8000000000000001) im length ≡ refusedOutcome Domain length
+  -- K at re = -2^-1074, at any order from 0 to 1,000 and any finite im, whatever its size: refusal 11
+  pub k-left-of-zero : (scaled : Bool) (v im : Float) (length : ℕ) → let a = argumentsOf v (ofBits binary64 0x8000000000000001) im in lengthInside length ≡ true → areFinite (a .order) (a .z .re) (a .z .im) ≡ true → orderInside (a .order) ≡ true → kOutcome scaled v (ofBits binary64 0x8000000000000001) im length ≡ refusedOutcome Sign length
   -- K on an empty buffer, and on one of 1,026 cells: refusal 1
   pub k-on-nothing : (scaled : Bool) (v re im : Float) → kOutcome scaled v re im 0 ≡ refusedOutcome Length 0
   pub k-on-too-much : (scaled : Bool) (v re im : Float) → kOutcome scaled v re im 1026 ≡ refusedOutcome Length 1026

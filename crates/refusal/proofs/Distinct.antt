@@ -6,17 +6,17 @@ use lib.Dec.{lit<}
 use lib.ListN.{getD}
 use Rattle.refusal.specs.Number.{numberOf}
 use Rattle.refusal.specs.declared.refusal.Refusal.{Refusal}
-use Rattle.refusal.specs.declared.refusal.Refusal.the-variants.{Length, NotFinite, Domain, Zero, Series, Start, Climb, Overflow, Malformed, NotPositive}
+use Rattle.refusal.specs.declared.refusal.Refusal.the-variants.{Length, NotFinite, Order, Zero, Series, Start, Climb, Overflow, Malformed, NotPositive, Sign, Size}
 
 -- the refusals at their numbers; no refusal has the number 0
 caseOf : ℕ → Refusal
-caseOf n = getD (Length ∷ Length ∷ NotFinite ∷ Domain ∷ Zero ∷ Series ∷ Start ∷ Climb ∷ Overflow ∷ Malformed ∷ NotPositive ∷ []) n Length
+caseOf n = getD (Length ∷ Length ∷ NotFinite ∷ Order ∷ Zero ∷ Series ∷ Start ∷ Climb ∷ Overflow ∷ Malformed ∷ NotPositive ∷ Sign ∷ Size ∷ []) n Length
 
 read-back : (r : Refusal) → caseOf (numberOf r) ≡ r
 unfolding caseOf
 read-back Length = refl
 read-back NotFinite = refl
-read-back Domain = refl
+read-back Order = refl
 read-back Zero = refl
 read-back Series = refl
 read-back Start = refl
@@ -24,6 +24,8 @@ read-back Climb = refl
 read-back Overflow = refl
 read-back Malformed = refl
 read-back NotPositive = refl
+read-back Sign = refl
+read-back Size = refl
 
 pub distinct : (r s : Refusal) → numberOf r ≡ numberOf s → r ≡ s
 distinct r s e = sym (read-back r) ∙ ap caseOf e ∙ read-back s
@@ -32,7 +34,7 @@ distinct r s e = sym (read-back r) ∙ ap caseOf e ∙ read-back s
 in-a-byte : (r : Refusal) → (0 < numberOf r) × (numberOf r < 256)
 in-a-byte Length = (lit< tt, lit< tt)
 in-a-byte NotFinite = (lit< tt, lit< tt)
-in-a-byte Domain = (lit< tt, lit< tt)
+in-a-byte Order = (lit< tt, lit< tt)
 in-a-byte Zero = (lit< tt, lit< tt)
 in-a-byte Series = (lit< tt, lit< tt)
 in-a-byte Start = (lit< tt, lit< tt)
@@ -40,6 +42,8 @@ in-a-byte Climb = (lit< tt, lit< tt)
 in-a-byte Overflow = (lit< tt, lit< tt)
 in-a-byte Malformed = (lit< tt, lit< tt)
 in-a-byte NotPositive = (lit< tt, lit< tt)
+in-a-byte Sign = (lit< tt, lit< tt)
+in-a-byte Size = (lit< tt, lit< tt)
 
 pub never-zero : (r : Refusal) → 0 < numberOf r
 never-zero r = in-a-byte r .0

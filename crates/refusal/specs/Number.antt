@@ -1,12 +1,12 @@
 -- The number of each refusal, as in docs/SCOPE.md's table. Definitions only.
 use Prim.Native.Nat.{ℕ}
 use Rattle.refusal.specs.declared.refusal.Refusal.{Refusal}
-use Rattle.refusal.specs.declared.refusal.Refusal.the-variants.{Length, NotFinite, Domain, Zero, Series, Start, Climb, Overflow, Malformed, NotPositive}
+use Rattle.refusal.specs.declared.refusal.Refusal.the-variants.{Length, NotFinite, Order, Zero, Series, Start, Climb, Overflow, Malformed, NotPositive, Sign, Size}
 
 abbrev pub numberOf : Refusal → ℕ
 numberOf Length = 1
 numberOf NotFinite = 2
-numberOf Domain = 3
+numberOf Order = 3
 numberOf Zero = 4
 numberOf Series = 5
 numberOf Start = 6
@@ -14,3 +14,5 @@ numberOf Climb = 7
 numberOf Overflow = 8
 numberOf Malformed = 9
 numberOf NotPositive = 10
+numberOf Sign = 11
+numberOf Size = 12

@@ -1,4 +1,4 @@
-// The refusals, in the order of their numbers. A call gives the first that applies; an answer has the number 0.
+// The refusals, in the order of their numbers. A call gives the first that applies in the order of its own checks; an answer has the number 0.
 // docs/SCOPE.md says exactly when each is given. Promised: the numbers of specs/Number.antt, no two of which are equal.
 ghost use mathlib.Core.Path.{_≡_};
 ghost use Rattle.refusal.specs.Number.{numberOf};
@@ -8,8 +8,8 @@ pub enum Refusal {
     Length,
     // an argument is not finite
     NotFinite,
-    // an argument lies outside its limits
-    Domain,
+    // the order is not from 0 to 1,000
+    Order,
     // K of 0
     Zero,
     // I, and the argument is too large for the power series
@@ -24,6 +24,10 @@ pub enum Refusal {
     Malformed,
     // log-gamma of 0 or less
     NotPositive,
+    // the real part is below 0
+    Sign,
+    // a part is above 32,768 in magnitude
+    Size,
 }
 
 impl Refusal {
@@ -33,7 +37,7 @@ impl Refusal {
         match self {
             Refusal::Length => 1,
             Refusal::NotFinite => 2,
-            Refusal::Domain => 3,
+            Refusal::Order => 3,
             Refusal::Zero => 4,
             Refusal::Series => 5,
             Refusal::Start => 6,
@@ -41,6 +45,8 @@ impl Refusal {
             Refusal::Overflow => 8,
             Refusal::Malformed => 9,
             Refusal::NotPositive => 10,
+            Refusal::Sign => 11,
+            Refusal::Size => 12,
         }
     }
 }

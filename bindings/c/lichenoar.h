@@ -6,13 +6,14 @@
 
    A call of K or I asks for n consecutive orders v, v+1, .., v+n-1 at z = re + im*i and lends 2n cells: the real part of an entry, then its
    imaginary part. Domain: v from 0 to 1000, n from 1 to 512, re from 0 to 32768, im from -32768 to 32768. What cannot be answered is refused by a
-   number, and the first that applies is given: 1 to 8 in their order, of log-gamma 2, then 10, then 8. A refusal writes the fixed not-a-number into
-   every cell that was lent, and its counts are 0. The numbers, what each says, and what to do about it (9 is the frame program's, and never given here):
+   number, and where several apply the first in this order is given. K: 1, 2, 3, 11, 12, 4, 6, 7, 8. I: 1, 2, 3, 11, 12, 5, 8. Log-gamma: 2, 10, 8.
+   A refusal writes the fixed not-a-number into every cell that was lent, and its counts are 0. The numbers, what each says, and what to do about it
+   (9 is the frame program's, and never given here):
 
      0   answered
      1   the number of cells is odd, 0 or above 1,024; ask for 1 to 512 orders, and lend two cells for each
      2   an argument is infinite or not a number; look at where the argument came from; no setting answers it
-     3   the order is not from 0 to 1,000, the real part is below 0, or a part is above 32,768 in magnitude; ask within these limits
+     3   the order is not from 0 to 1,000; ask for a first order from 0 to 1,000
      4   K of 0 is infinite; ask at an argument other than 0
      5   the argument is too large for the power series of I; ask for modulus^2/4 - order orders or more and use the first rows; it helps to a modulus
          of 37
@@ -21,6 +22,8 @@
      8   a finished value is not finite; ask plain if it was asked scaled; else for fewer or lower orders, or farther from 0; for log-gamma below 2.55e305
      9   the line is no frame; write 56 upper-case hexadecimal digits, kind 01 or 02, scaling 00 or 01; take carriage returns away
      10  log-gamma of 0 or less; ask above 0
+     11  the real part is below 0; ask at a real part of 0 or more; -0 counts as 0
+     12  a part is above 32,768 in magnitude; ask at parts from -32,768 to 32,768
 */
 #ifndef LICHENOAR_H
 #define LICHENOAR_H
@@ -29,10 +32,10 @@
 #include <stdint.h>
 
 /* The version that this header came with, as words and as numbers. */
-#define LICHENOAR_VERSION "0.2.1"
+#define LICHENOAR_VERSION "0.3.0"
 #define LICHENOAR_VERSION_MAJOR 0
-#define LICHENOAR_VERSION_MINOR 2
-#define LICHENOAR_VERSION_PATCH 1
+#define LICHENOAR_VERSION_MINOR 3
+#define LICHENOAR_VERSION_PATCH 0
 
 #ifdef __cplusplus
 extern "C" {
@@ -59,12 +62,13 @@ typedef struct lichenoar_log_gamma_answer {
 /* K(v), .., K(v+n-1) at re + im*i, where length = 2n: the modified Bessel function of the second kind. scaled: 0 for the values themselves, any other
    for the values times e^z. Unscaled values of a large re underflow: these entries are 0 and come first; `zeros` is how many.
    The record is written to *answer, and `answer` is returned. `out` must lend `length` cells; it may be any pointer, a null one too, where the length
-   is 0. A length that is refused is safe: each of the cells lent is written, and no other. Refused by 1, 2, 3, 4, 6, 7 or 8. */
+   is 0. A length that is refused is safe: each of the cells lent is written, and no other. Refused by 1, 2, 3, 11, 12, 4,
+   6, 7 or 8. */
 lichenoar_answer *lichenoar_k(lichenoar_answer *answer, uint8_t scaled, double v, double re, double im, double *out, size_t length);
 
 /* I(v), .., I(v+n-1) at re + im*i, as for K: the modified Bessel function of the first kind, by its power series, which is taken for |z|*|z|/4 up to
    v + n. scaled: 0 for the values themselves, any other for the values times e^-re. High orders underflow first. Where `zeros` is negative, look at the
-   cells before using the low orders: those below the stop hold the fixed not-a-number. Refused by 1, 2, 3, 5 or 8. */
+   cells before using the low orders: those below the stop hold the fixed not-a-number. Refused by 1, 2, 3, 11, 12, 5 or 8. */
 lichenoar_answer *lichenoar_i(lichenoar_answer *answer, uint8_t scaled, double v, double re, double im, double *out, size_t length);
 
 /* The logarithm of the gamma function of x. Refused by 2 where x is not finite, by 10 where it is 0 or less, by 8 where the value is above the largest

@@ -254,10 +254,10 @@ def shows():
         "  order -Infinity                  Infinity                 -Infinity i", ""]), "")
     for number, said in frame.refusals().items():
         shown_as(b"%02X" % number + b"0" * 16, [], 0, f"frame 1: refusal {number}: {said}\n", "")
-    for number in (11, 12, 99, 255):
+    for number in (99, 200, 255):
         shown_as(b"%02X" % number + b"0" * 16 + b"\n", [], 0, f"frame 1: refusal {number}, not known here\n", "")
-    shown_as(b"04" + b"0" * 16 + b"\n0B" + b"0" * 16 + b"\n" + WHOLE.encode() + b"\n", ["0.25"], 0,
-             f"frame 1: refusal 4: {frame.refusals()[4]}\nframe 2: refusal 11, not known here\nframe 3: {text}", "")
+    shown_as(b"04" + b"0" * 16 + b"\nC8" + b"0" * 16 + b"\n" + WHOLE.encode() + b"\n", ["0.25"], 0,
+             f"frame 1: refusal 4: {frame.refusals()[4]}\nframe 2: refusal 200, not known here\nframe 3: {text}", "")
 
 
 def bad_lines():
@@ -354,8 +354,8 @@ def runs(top, elsewhere):
     same(shell(command, elsewhere), (1, heading + f"refusal 4: {frame.refusals()[4]}\n", "proved 1 of 31\n"), "refused, with progress")
     made_up(top, "echo 040000000000000000; exit 0")
     same(shell(command, elsewhere)[0], 1, "refused")
-    made_up(top, "echo 0B0000000000000000; exit 1")
-    same(shell(command, elsewhere), (1, heading + "refusal 11, not known here\n", ""), "a number that is not known")
+    made_up(top, "echo C80000000000000000; exit 1")
+    same(shell(command, elsewhere), (1, heading + "refusal 200, not known here\n", ""), "a number that is not known")
     for text, said in (
         ("exit 1", "./run gave 0 lines in place of one, and ended with 1"),
         ("exit 0", "./run gave 0 lines in place of one, and ended with 0"),
@@ -448,7 +448,7 @@ def short_lists(top, elsewhere):
         ("\n".join(line for line in whole.split("\n") if not line.startswith("9 ")), 0, (four, "refusal 9, not known here"), ""),
         (whole.replace("K of 0 is infinite", "nothing"), 0, (four.replace("K of 0 is infinite", "nothing"), nine), ""),
         (whole.replace("4 | Zero | K", "4 | Zero"), 1, ("refusal 4, not known here", "refusal 9, not known here"),
-         "show: the list of refusals cannot be read: docs/refusals.txt:7: not five fields with ' | ' between them\n"),
+         "show: the list of refusals cannot be read: docs/refusals.txt:8: not five fields with ' | ' between them\n"),
         ("", 1, ("refusal 4, not known here", "refusal 9, not known here"), "show: the list of refusals cannot be read: docs/refusals.txt has no entry\n"),
     ):
         with open(path, "w", encoding="utf-8") as file:

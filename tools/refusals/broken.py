@@ -98,6 +98,26 @@ def of_claims(one):
         yield Edit("claims", f"frames get another number than {one.number}", path, rf"(?P<a>number ≡ ){one.number}(?P<b> → parsedOf line ≡ Malformed)", r"\g<a>99\g<b>")
 
 
+def swapped(match):
+    """The match with the first two of the numbers behind its name, or behind its words, changed over."""
+    return match["a"] + match["d"] + match["c"] + match["b"]
+
+
+def of_order():
+    for path, givers in same.ORDERED.items():
+        for giver in givers:
+            named = rf"(?<![\w-]){giver if giver != 'log-gamma' else '[Ll]og-gamma'}: "
+            yield Edit("order", f"the order of {giver}", path, rf"(?P<a>{named})(?P<b>\d+)(?P<c>, )(?P<d>\d+)(?=[, ]|\n)", swapped)
+            yield Edit("order", f"the order of {giver} without its first", path, rf"(?P<a>{named})\d+, (?=\d)", r"\g<a>")
+            yield Edit("order", f"no order of {giver}", path, rf"{named}(?=\d+, )", "")
+    for last in ("6, 7", "5"):
+        behind = rf"(?P<a>Refused by (?:\d+,\s+)*)(?P<b>11)(?P<c>, )(?P<d>12)(?=,\s+(?:4,\s+)?{last} or 8\.)"
+        yield Edit("order", f"what refuses, to {last} or 8", "bindings/c/lichenoar.h", behind, swapped)
+    for record in ("OfK", "OfSeries"):
+        listed_as = rf"(?P<a>^pub record {record}\b(?:(?!\n\S).)*?pub listed\b[^≡]*≡ 1 ∷ 2 ∷ 3 ∷ )(?P<b>11)(?P<c> ∷ )(?P<d>12)(?= ∷)"
+        yield Edit("order", f"the order that {record} has", "crates/claims/proofs/Claims.antt", listed_as, swapped)
+
+
 def of_frames(one):
     path, old = "tools/frames/frame.py", r"for one in listed\.read\(\)\}"
     for what, said in ((f"the words of {one.number}", f"{spoiled(one.words)}; {one.remedy}"), (f"the remedy of {one.number}", f"{one.words}; {spoiled(one.remedy)}")):
@@ -123,6 +143,7 @@ def edits(entries):
     for one in entries:
         for made in (of_tables(one), of_header(one), of_rust(one), of_crate(one, entries), of_claims(one), of_frames(one), of_list(one)):
             yield from made
+    yield from of_order()
     last = entries[-1].number
     yield Edit("README", "a row too many", "README.md", rf"^(?P<a>\| {last} \| [^\n]*\n)", rf"\g<a>| {last + 1} | K | nothing | nothing |\n")
     yield Edit("SCOPE", "a row too many", "docs/SCOPE.md", rf"^(?P<a>\| {last} \| [^\n]*\n)", rf"\g<a>| {last + 1} | K | nothing | never |\n")

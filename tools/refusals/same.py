@@ -1,11 +1,13 @@
 #!/usr/bin/env python3
 """same.py            holds the refusals to one list, docs/refusals.txt: crate refusal (cases, their order, their numbers), the lists of numbers that the claims have
-                   for K, I, log-gamma and frames, the tables of README.md and docs/SCOPE.md, the C header, the Rust error, and what tools/frames shows
+                   for K, I, log-gamma and frames, the tables of README.md and docs/SCOPE.md, the C header, the Rust error, and what tools/frames shows;
+                   and the order of the checks that pages tell to the one that the claims have, proved
 same.py --broken   breaks each of these places in a copy, by number, by words, by remedy, by who gives it, and sees each caught
 
 The form of each place. README.md: a row `| number | given by | words | remedy |`. docs/SCOPE.md: `| number | given by | words | .. |`. The header: in the
 comment with the line `0  answered`, `number  words; remedy`, more lines of an entry indented deeper, a blank line or the comment's end behind the last. The Rust
-error: `number`, `from_number`, `words` and `remedy`, each a match with a case an arm; Display says number and words."""
+error: `number`, `from_number`, `words` and `remedy`, each a match with a case an arm; Display says number and words. The order: `K: 1, 2, ..`, once a page,
+and behind `Refused by` in the header."""
 import os
 import re
 import subprocess
@@ -16,7 +18,11 @@ import listed
 READ = (
     "README.md", "docs/SCOPE.md", "docs/refusals.txt", "bindings/c/lichenoar.h", "bindings/rust/src/refusal.rs", "crates/refusal/src/refusal.rt",
     "crates/refusal/specs/Number.antt", "crates/claims/proofs/Claims.antt", "tools/refusals/listed.py", "tools/frames/show.py", "tools/frames/frame.py",
+    "bindings/rust/README.md", "docs/lichenoar.1",
 )
+# the pages that tell the order of the checks, and of whom
+ORDERED = {path: ("K", "I", "log-gamma") for path in ("README.md", "docs/SCOPE.md", "bindings/c/lichenoar.h", "bindings/rust/src/refusal.rs", "bindings/rust/README.md")}
+ORDERED["docs/lichenoar.1"] = ("K", "I")
 
 
 def text_of(top, path):
@@ -57,15 +63,21 @@ def crate(entries, top):
     return wrong
 
 
-def claims(entries, top):
-    text = text_of(top, "crates/claims/proofs/Claims.antt")
+def proved_orders(text):
+    """The numbers of each list of checks, in its order, as the claims have them."""
     got = {}
     for record, giver in (("OfK", "K"), ("OfSeries", "I"), ("OfLogGamma", "log-gamma")):
         body = part(text, rf"^pub record {record}\b", r"^\S", f"the record {record}")
         lists = re.findall(r"^  pub listed\b[^≡]*≡((?:\s*\d+\s*∷)+\s*\[\])", body, flags=re.M)
         if len(lists) != 1:
             raise ValueError(f"{record} has {len(lists)} lists of numbers")
-        got[giver] = sorted(set(map(int, re.findall(r"\d+", lists[0]))))
+        got[giver] = list(map(int, re.findall(r"\d+", lists[0])))
+    return got
+
+
+def claims(entries, top):
+    text = text_of(top, "crates/claims/proofs/Claims.antt")
+    got = {giver: sorted(numbers) for giver, numbers in proved_orders(text).items()}
     body = part(text, r"^pub record OfLines\b", r"^\S", "the record OfLines")
     got["frame"] = sorted(set(map(int, re.findall(r"number ≡ (\d+) → parsedOf line ≡ Malformed", body))))
     return compared(got, {giver: [one.number for one in entries if giver in one.given_by] for giver in listed.GIVERS}, "crates/claims/proofs/Claims.antt")
@@ -136,6 +148,22 @@ def rust(entries, top):
     return wrong
 
 
+def order(_entries, top):
+    proved = {giver: ", ".join(map(str, numbers)) for giver, numbers in proved_orders(text_of(top, "crates/claims/proofs/Claims.antt")).items()}
+    wrong = []
+    for path, givers in ORDERED.items():
+        flat = " ".join(re.sub(r"^\s*///?", "", text_of(top, path), flags=re.M).split())
+        for giver in givers:
+            got = re.findall(rf"(?<![\w-]){giver}: (\d+(?:, \d+)+)", flat, flags=re.I if giver == "log-gamma" else 0)
+            if got != [proved[giver]]:
+                wrong.append(f"{path}: the order of {giver} is told as {got}, and the claims have {proved[giver]!r}")
+    flat = " ".join(text_of(top, "bindings/c/lichenoar.h").split())
+    got = [one.replace(" or", ",") for one in re.findall(r"Refused by (\d+(?:, \d+)+ or \d+)", flat)]
+    if got != [proved["K"], proved["I"]]:
+        wrong.append(f"bindings/c/lichenoar.h: K and I are refused by {got}, and the claims have {[proved['K'], proved['I']]}")
+    return wrong
+
+
 def frames(entries, top):
     lines = "".join(f"{number:02X}{16 * '0'}\n" for number in range(1, 256))
     done = subprocess.run([os.path.join(top, "tools/frames/show.py")], input=lines, capture_output=True, text=True, check=False)
@@ -153,6 +181,7 @@ PLACES = {
     "SCOPE": table("docs/SCOPE.md", "| No. | Given by | In words | Given exactly when |", 2),
     "header": header,
     "Rust": rust,
+    "order": order,
     "frames": frames,
 }
 

@@ -142,7 +142,11 @@ fn single(function: raw::Bessel, order: f64, z: Complex, scaling: Scaling) -> Re
 /// assert_eq!(k(0.25, z, Scaling::Scaled), Ok(Complex::new(0.9065919966458136, 0.1977141925446418)));
 /// assert_eq!(k(0.0, Complex::from(800.0), Scaling::Unscaled), Ok(Complex::ZERO));
 /// assert_eq!(k(0.0, Complex::ZERO, Scaling::Unscaled), Err(Refusal::Zero));
-/// assert_eq!(k(1000.5, z, Scaling::Scaled), Err(Refusal::Domain));
+/// // the order is looked at first, then the sign of the real part, then the size of the parts
+/// let left = Complex::new(-40_000.0, 0.0);
+/// assert_eq!(k(1000.5, left, Scaling::Scaled), Err(Refusal::Order));
+/// assert_eq!(k(0.25, left, Scaling::Scaled), Err(Refusal::Sign));
+/// assert_eq!(k(0.25, Complex::new(40_000.0, 0.0), Scaling::Scaled), Err(Refusal::Size));
 /// ```
 ///
 /// ```compile_fail,E0308
@@ -182,8 +186,9 @@ pub fn i(order: f64, z: Complex, scaling: Scaling) -> Result<Complex, Refusal> {
 /// Scaled, every value is times e^z. Unscaled values of a large real part underflow: these entries are zero, come first, and `zeros` counts them.
 ///
 /// # Errors
-/// [`Refusal::Length`], [`NotFinite`](Refusal::NotFinite), [`Domain`](Refusal::Domain), [`Zero`](Refusal::Zero), [`Start`](Refusal::Start),
-/// [`Climb`](Refusal::Climb) or [`Overflow`](Refusal::Overflow). Every entry of the slice is then the fixed not-a-number in both parts.
+/// [`Refusal::Length`], [`NotFinite`](Refusal::NotFinite), [`Order`](Refusal::Order), [`Sign`](Refusal::Sign), [`Size`](Refusal::Size),
+/// [`Zero`](Refusal::Zero), [`Start`](Refusal::Start), [`Climb`](Refusal::Climb) or [`Overflow`](Refusal::Overflow), the first that applies. Every entry of
+/// the slice is then the fixed not-a-number in both parts.
 ///
 /// ```
 /// use lichenoar::{k_into, Complex, Refusal, Scaling};
@@ -212,8 +217,9 @@ pub fn k_into(z: Complex, order: f64, scaling: Scaling, out: &mut [Complex]) -> 
 /// not-a-number. [`Answer::is_whole`] says whether there are any.
 ///
 /// # Errors
-/// [`Refusal::Length`], [`NotFinite`](Refusal::NotFinite), [`Domain`](Refusal::Domain), [`Series`](Refusal::Series) or
-/// [`Overflow`](Refusal::Overflow). Every entry of the slice is then the fixed not-a-number in both parts.
+/// [`Refusal::Length`], [`NotFinite`](Refusal::NotFinite), [`Order`](Refusal::Order), [`Sign`](Refusal::Sign), [`Size`](Refusal::Size),
+/// [`Series`](Refusal::Series) or [`Overflow`](Refusal::Overflow), the first that applies. Every entry of the slice is then the fixed not-a-number in both
+/// parts.
 ///
 /// ```
 /// use lichenoar::{i_into, Complex, Refusal, Scaling};

@@ -1,7 +1,8 @@
 use core::error::Error;
 use core::fmt;
 
-/// Why a call has no answer. Where several apply, the one with the lowest number is given; log-gamma asks for 2, then 10, then 8.
+/// Why a call has no answer. Where several apply, the first in this order is given. K: 1, 2, 3, 11, 12, 4, 6, 7, 8. I: 1, 2, 3, 11, 12, 5, 8.
+/// Log-gamma: 2, 10, 8.
 ///
 /// [`words`](Refusal::words) says what was met and [`remedy`](Refusal::remedy) what to do about it, as docs/refusals.txt of the repository has them and the
 /// C header and the shift's scripts say them.
@@ -46,8 +47,8 @@ pub enum Refusal {
     Length,
     /// 2: an argument is infinite or not a number.
     NotFinite,
-    /// 3: the order is not from 0 to 1,000, the real part is below 0, or a part is above 32,768 in magnitude.
-    Domain,
+    /// 3: the order is not from 0 to 1,000, whatever the argument is.
+    Order,
     /// 4: K of 0.
     Zero,
     /// 5: I, and `|z|²/4` is above the order plus the number of entries: too large for the power series.
@@ -62,6 +63,10 @@ pub enum Refusal {
     Malformed,
     /// 10: log-gamma of 0 or less.
     NotPositive,
+    /// 11: the order is inside its limits, and the real part is below 0. -0 is not.
+    Sign,
+    /// 12: the order is inside its limits, the real part is not below 0, and a part is above 32,768 in magnitude.
+    Size,
     /// A number that this version of the crate does not know, from a newer archive.
     Other(u32),
 }
@@ -82,7 +87,7 @@ impl Refusal {
             0 => return None,
             1 => Refusal::Length,
             2 => Refusal::NotFinite,
-            3 => Refusal::Domain,
+            3 => Refusal::Order,
             4 => Refusal::Zero,
             5 => Refusal::Series,
             6 => Refusal::Start,
@@ -90,6 +95,8 @@ impl Refusal {
             8 => Refusal::Overflow,
             9 => Refusal::Malformed,
             10 => Refusal::NotPositive,
+            11 => Refusal::Sign,
+            12 => Refusal::Size,
             other => Refusal::Other(other),
         })
     }
@@ -100,7 +107,7 @@ impl Refusal {
         match self {
             Refusal::Length => 1,
             Refusal::NotFinite => 2,
-            Refusal::Domain => 3,
+            Refusal::Order => 3,
             Refusal::Zero => 4,
             Refusal::Series => 5,
             Refusal::Start => 6,
@@ -108,6 +115,8 @@ impl Refusal {
             Refusal::Overflow => 8,
             Refusal::Malformed => 9,
             Refusal::NotPositive => 10,
+            Refusal::Sign => 11,
+            Refusal::Size => 12,
             Refusal::Other(number) => number,
         }
     }
@@ -118,7 +127,7 @@ impl Refusal {
         match self {
             Refusal::Length => "the number of cells is odd, 0 or above 1,024",
             Refusal::NotFinite => "an argument is infinite or not a number",
-            Refusal::Domain => "the order is not from 0 to 1,000, the real part is below 0, or a part is above 32,768 in magnitude",
+            Refusal::Order => "the order is not from 0 to 1,000",
             Refusal::Zero => "K of 0 is infinite",
             Refusal::Series => "the argument is too large for the power series of I",
             Refusal::Start => "the search for the start of the backward steps found none",
@@ -126,6 +135,8 @@ impl Refusal {
             Refusal::Overflow => "a finished value is not finite",
             Refusal::Malformed => "the line is no frame",
             Refusal::NotPositive => "log-gamma of 0 or less",
+            Refusal::Sign => "the real part is below 0",
+            Refusal::Size => "a part is above 32,768 in magnitude",
             Refusal::Other(_) => "not known here",
         }
     }
@@ -146,7 +157,7 @@ impl Refusal {
         match self {
             Refusal::Length => "ask for 1 to 512 orders, and lend two cells for each",
             Refusal::NotFinite => "look at where the argument came from; no setting answers it",
-            Refusal::Domain => "ask within these limits",
+            Refusal::Order => "ask for a first order from 0 to 1,000",
             Refusal::Zero => "ask at an argument other than 0",
             Refusal::Series => "ask for modulus^2/4 - order orders or more and use the first rows; it helps to a modulus of 37",
             Refusal::Start => "no input is known that gets it; please report the frame",
@@ -154,6 +165,8 @@ impl Refusal {
             Refusal::Overflow => "ask plain if it was asked scaled; else for fewer or lower orders, or farther from 0; for log-gamma below 2.55e305",
             Refusal::Malformed => "write 56 upper-case hexadecimal digits, kind 01 or 02, scaling 00 or 01; take carriage returns away",
             Refusal::NotPositive => "ask above 0",
+            Refusal::Sign => "ask at a real part of 0 or more; -0 counts as 0",
+            Refusal::Size => "ask at parts from -32,768 to 32,768",
             Refusal::Other(_) => "look it up in the list of the archive's version",
         }
     }

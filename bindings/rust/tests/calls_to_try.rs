@@ -42,7 +42,7 @@ fn k_of_an_order_that_is_not_a_number() {
 #[test]
 fn k_left_of_the_axis() {
     let mut out = [RUBBISH; 1];
-    assert_eq!(k_into(Complex::new(-f64::from_bits(1), 0.0), 0.0, Unscaled, &mut out), Err(Refusal::Domain));
+    assert_eq!(k_into(Complex::new(-f64::from_bits(1), 0.0), 0.0, Unscaled, &mut out), Err(Refusal::Sign));
 }
 
 #[test]

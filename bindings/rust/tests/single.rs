@@ -79,7 +79,7 @@ fn the_entry_of_a_slice_of_one() {
         got.err().map_or(0, Refusal::number)
     });
     // every outcome that a slice of one is known to have
-    assert_eq!(met, [BTreeSet::from([0, 2, 3, 4, 7, 8]), BTreeSet::from([0, 2, 3, 5])]);
+    assert_eq!(met, [BTreeSet::from([0, 2, 3, 4, 7, 8, 11, 12]), BTreeSet::from([0, 2, 3, 5, 11, 12])]);
 }
 
 #[test]
@@ -131,10 +131,17 @@ fn each_refusal_of_a_single_value() {
                 assert_eq!(single(0.0, Complex::new(0.0, bad), scaling), Err(Refusal::NotFinite));
             }
             for outside in [-1.0, 1_000.000_000_000_000_1, -f64::from_bits(1)] {
-                assert_eq!(single(outside, one, scaling), Err(Refusal::Domain));
+                // the order comes first, whatever the parts are
+                for z in [one, (-1.0, 0.0).into(), (1.0, 32_769.0).into(), (-32_769.0, 32_769.0).into()] {
+                    assert_eq!(single(outside, z, scaling), Err(Refusal::Order));
+                }
             }
-            for outside in [(-1.0, 0.0), (32_769.0, 0.0), (1.0, 32_769.0), (1.0, -32_769.0)] {
-                assert_eq!(single(0.0, outside.into(), scaling), Err(Refusal::Domain));
+            // then the sign, whatever the sizes are
+            for outside in [(-1.0, 0.0), (-f64::from_bits(1), 1.0), (-32_769.0, 0.0), (-1.0, 32_769.0), (-f64::MAX, -f64::MAX)] {
+                assert_eq!(single(0.0, outside.into(), scaling), Err(Refusal::Sign));
+            }
+            for outside in [(32_769.0, 0.0), (1.0, 32_769.0), (1.0, -32_769.0), (-0.0, 32_768.000_000_000_01), (f64::MAX, f64::MAX)] {
+                assert_eq!(single(0.0, outside.into(), scaling), Err(Refusal::Size));
             }
         }
         assert_eq!(k(0.0, Complex::ZERO, scaling), Err(Refusal::Zero));

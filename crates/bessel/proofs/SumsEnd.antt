@@ -1,4 +1,4 @@
--- Every sum that an admitted call by the power series begins leaves by its own test, after 19 terms at most: refusals 3 and 5 leave only such sums. Assumes nothing.
+-- Every sum that an admitted call by the power series begins leaves by its own test, after 19 terms at most: refusals 3, 12 and 5 leave only such sums. Assumes nothing.
 use mathlib.Core.Path.{_≡_}
 use mathlib.Core.Bool.{Bool, true, false}
 use Prim.Native.Nat.{ℕ, _-_, _/_}

@@ -6,7 +6,8 @@ use lib.Dec.{lit<}
 use lib.ListN.{getD}
 use Rattle.refusal.specs.Number.{numberOf}
 use Rattle.refusal.specs.declared.refusal.Refusal.{Refusal}
-use Rattle.refusal.specs.declared.refusal.Refusal.the-variants.{Length, NotFinite, Order, Zero, Series, Start, Climb, Overflow, Malformed, NotPositive, Sign, Size}
+use Rattle.refusal.specs.declared.refusal.Refusal.the-variants.{Length, NotFinite, Order, Zero, Series, Start, Climb, Overflow, Malformed, NotPositive}
+use Rattle.refusal.specs.declared.refusal.Refusal.the-variants.{Sign, Size}
 
 -- the refusals at their numbers; no refusal has the number 0
 caseOf : ℕ → Refusal

@@ -1,7 +1,8 @@
 -- The number of each refusal, as in docs/SCOPE.md's table. Definitions only.
 use Prim.Native.Nat.{ℕ}
 use Rattle.refusal.specs.declared.refusal.Refusal.{Refusal}
-use Rattle.refusal.specs.declared.refusal.Refusal.the-variants.{Length, NotFinite, Order, Zero, Series, Start, Climb, Overflow, Malformed, NotPositive, Sign, Size}
+use Rattle.refusal.specs.declared.refusal.Refusal.the-variants.{Length, NotFinite, Order, Zero, Series, Start, Climb, Overflow, Malformed, NotPositive}
+use Rattle.refusal.specs.declared.refusal.Refusal.the-variants.{Sign, Size}
 
 abbrev pub numberOf : Refusal → ℕ
 numberOf Length = 1

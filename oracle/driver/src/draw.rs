@@ -324,3 +324,118 @@ pub fn k_edges() -> Vec<Call> {
     both(5e-324, 0.3, 0.0, 2);
     out
 }
+
+/// Which limits a call was drawn to break.
+#[derive(Clone, Copy, Debug)]
+pub struct Broken {
+    pub order: bool,
+    pub sign: bool,
+    pub size: bool,
+}
+
+impl Broken {
+    pub fn ways(self) -> usize {
+        self.order as usize + 2 * self.sign as usize + 4 * self.size as usize
+    }
+    /// The refusal of a call that is otherwise whole: by the order first, then by the sign, then by the size.
+    pub fn number(self) -> Option<u32> {
+        [(self.order, 3), (self.sign, 11), (self.size, 12)].iter().find(|(broken, _)| *broken).map(|(_, number)| *number)
+    }
+}
+
+/// The value `steps` patterns farther from zero.
+fn farther(x: f64, steps: u64) -> f64 {
+    f64::from_bits(x.to_bits() + steps)
+}
+
+const LEAST: f64 = f64::from_bits(1);
+
+fn order_inside(d: &mut Draw) -> f64 {
+    match d.below(6) {
+        0 => d.of(&[0.0, -0.0, LEAST, f64::MIN_POSITIVE, 1000.0, 999.5]),
+        1 => f64::from_bits(1000f64.to_bits() - d.below(8)),
+        2 => d.by_exponent(-1074, 8),
+        3 => d.below(1001) as f64,
+        _ => d.between(0.0, 1000.0),
+    }
+}
+
+fn order_outside(d: &mut Draw) -> f64 {
+    match d.below(6) {
+        0 => d.of(&[-LEAST, -f64::MIN_POSITIVE, -1000.0, 1001.0, f64::MAX, -f64::MAX]),
+        1 => farther(1000.0, 1 + d.below(8)),
+        2 => -farther(0.0, 1 + d.below(8)),
+        3 => -d.by_exponent(-1074, 1023),
+        4 => d.by_exponent(10, 1023),
+        _ => -d.between(0.001, 2000.0),
+    }
+}
+
+/// A magnitude above zero, at most 32,768.
+fn part_inside(d: &mut Draw) -> f64 {
+    match d.below(6) {
+        0 => d.of(&[LEAST, f64::MIN_POSITIVE, 32768.0, 1.0]),
+        1 => f64::from_bits(32768f64.to_bits() - d.below(8)),
+        2 => farther(0.0, 1 + d.below(8)),
+        3 => d.by_exponent(-1074, 14),
+        4 => d.between(0.001, 60.0),
+        _ => d.between(0.001, 32768.0),
+    }
+}
+
+/// A magnitude above 32,768.
+fn part_outside(d: &mut Draw) -> f64 {
+    match d.below(4) {
+        0 => d.of(&[32769.0, 65536.0, f64::MAX]),
+        1 => farther(32768.0, 1 + d.below(8)),
+        2 => d.by_exponent(16, 1023),
+        _ => d.between(32768.1, 70000.0),
+    }
+}
+
+/// A call with one, two or all three limits broken, or with none; one in eight of the kept parts is a zero of either sign. A few have a length that is refused, or a
+/// value that is not finite, which come first.
+pub fn call_limits(d: &mut Draw, outside: bool) -> (Call, Broken) {
+    let ways = if outside { 1 + d.below(7) } else { 0 };
+    let broken = Broken { order: ways & 1 != 0, sign: ways & 2 != 0, size: ways & 4 != 0 };
+    // the size is broken by the real part, by the imaginary part, or by both
+    let by = if broken.size { 1 + d.below(3) } else { 0 };
+    let v = if broken.order { order_outside(d) } else { order_inside(d) };
+    let mut part = |d: &mut Draw, large: bool, may_vanish: bool| match (large, may_vanish && d.below(8) == 0) {
+        (true, _) => part_outside(d),
+        (false, true) => 0.0,
+        _ => part_inside(d),
+    };
+    let re = part(d, by & 1 != 0, !broken.sign);
+    // a zero of either sign is not below zero
+    let re = if broken.sign || (re == 0.0 && d.below(2) == 0) { -re } else { re };
+    let im = part(d, by & 2 != 0, true);
+    let mut c = Call { scaled: d.below(2) == 0, v, re, im: d.sign(im), length: length(d) };
+    if d.below(64) == 0 {
+        let bad = d.of(&[f64::NAN, f64::INFINITY, f64::NEG_INFINITY]);
+        *[&mut c.v, &mut c.re, &mut c.im][d.below(3) as usize] = bad;
+    }
+    (c, broken)
+}
+
+/// Both sides of every limit, with zeros of both signs, the least and the largest values, each with each.
+pub fn limits_edges() -> Vec<(Call, Broken)> {
+    let (above, below) = (farther(1000.0, 1), f64::from_bits(1000f64.to_bits() - 1));
+    let (large, small) = (farther(32768.0, 1), f64::from_bits(32768f64.to_bits() - 1));
+    let orders = [(0.0, false), (-0.0, false), (LEAST, false), (-LEAST, true), (below, false), (1000.0, false), (above, true), (-1000.0, true), (f64::MAX, true), (-f64::MAX, true)];
+    let parts = [(0.0, false), (LEAST, false), (f64::MIN_POSITIVE, false), (2.0, false), (small, false), (32768.0, false), (large, true), (f64::MAX, true)];
+    let mut out = Vec::new();
+    for (v, order) in orders {
+        for (x, wide) in parts {
+            for (y, high) in parts {
+                for signs in 0..8u8 {
+                    let re = if signs & 1 != 0 { -x } else { x };
+                    let im = if signs & 2 != 0 { -y } else { y };
+                    let broken = Broken { order, sign: signs & 1 != 0 && x != 0.0, size: wide || high };
+                    out.push((Call { scaled: signs & 4 != 0, v, re, im, length: 4 }, broken));
+                }
+            }
+        }
+    }
+    out
+}

@@ -3,7 +3,7 @@
 
 use crate::draw::{self, Call, Draw};
 use crate::reference::{self, Kind, Outcome};
-use crate::BRANCHES;
+use crate::{BRANCHES, NUMBERS};
 use std::process::exit;
 
 const MALFORMED: &str = "090000000000000000";
@@ -77,7 +77,7 @@ fn pairs(d: &mut Draw, i: u64, drawn: usize) -> usize {
 }
 
 pub fn print(count: u64, d: &mut Draw) {
-    let mut numbers = [0u64; 11];
+    let mut numbers = [0u64; NUMBERS];
     let mut branches = 0;
     // the calls that are named; of the edges of both entry points those that reach a branch first, and of the rest every so many; then random calls
     let mut calls = named();

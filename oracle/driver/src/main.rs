@@ -1,5 +1,6 @@
 //! oracle ENTRY COUNT SEED: compares an entry point of libcapi.a (log_gamma, i, k) with the Rust text, bit for bit: values, counts, refusal numbers and every
-//! cell of a buffer that was filled with rubbish first. ENTRY `text-i` or `text-k` compares the text with its counted copy alone. The structured inputs come first
+//! cell of a buffer that was filled with rubbish first. ENTRY `limits` compares K and I in turn, every third call outside the limits in one, two or three ways.
+//! ENTRY `text-i` or `text-k` compares the text with its counted copy alone. The structured inputs come first
 //! where there are any, then COUNT random ones by SEED. `record` in the place of an ENTRY prints COUNT recorded answers of log-gamma, and `frames` COUNT asking frames each with
 //! its answer line, for replays without Rust. A difference prints the call in hexadecimal and fails the run. At the end: refusals by number, the largest
 //! counts, and how often each branch was taken; a branch that the domain reaches and the run did not is a failure too.
@@ -52,10 +53,13 @@ pub const BRANCHES: [(u32, &str, &str); 35] = [
     (37, "log-gamma shift undone", "log_gamma"),
 ];
 
+/// 0 and the refusals' numbers.
+pub const NUMBERS: usize = 13;
+
 struct Tally {
     calls: u64,
     compared: u64,
-    by_number: [u64; 11],
+    by_number: [u64; NUMBERS],
     branches: [u64; 64],
     longest: [u32; 3],
 }
@@ -87,7 +91,8 @@ fn log_gamma(x: f64, t: &mut Tally) {
     }
 }
 
-fn bessel(kind: Kind, c: &Call, rubbish: u64, with_port: bool, t: &mut Tally) {
+/// The text's number; the run ends where the port's outcome is another.
+fn bessel(kind: Kind, c: &Call, rubbish: u64, with_port: bool, t: &mut Tally) -> u32 {
     let call = format!("{kind:?} scaled={} v={:016X} re={:016X} im={:016X} cells={}", c.scaled as u8, c.v.to_bits(), c.re.to_bits(), c.im.to_bits(), c.length);
     let (want, passed) = reference::outcome(kind, c).unwrap_or_else(|e| differs(format!("{call}: {e}")));
     t.calls += 1;
@@ -104,7 +109,7 @@ fn bessel(kind: Kind, c: &Call, rubbish: u64, with_port: bool, t: &mut Tally) {
         }
     }
     if !with_port {
-        return;
+        return want.number;
     }
     match port::outcome(kind, c, rubbish) {
         None => differs(format!("libcapi.a has no entry point {kind:?}")),
@@ -117,6 +122,41 @@ fn bessel(kind: Kind, c: &Call, rubbish: u64, with_port: bool, t: &mut Tally) {
             }
         }
     }
+    want.number
+}
+
+/// K and I, with calls that were drawn to lie outside the limits in a known way: the number has to be that way's. Whether every way was met.
+fn limits(count: u64, d: &mut Draw, t: &mut Tally) -> bool {
+    let mut ways = [0u64; 8];
+    let mut one = |kind: Kind, (c, broken): (Call, draw::Broken), rubbish: u64, t: &mut Tally| {
+        let number = bessel(kind, &c, rubbish, true, t);
+        ways[broken.ways()] += 1;
+        let before = if c.length % 2 == 1 || c.length == 0 || c.length > 1024 {
+            Some(1)
+        } else if [c.v, c.re, c.im].iter().any(|x| !x.is_finite()) {
+            Some(2)
+        } else {
+            broken.number()
+        };
+        if before.map_or([1, 2, 3, 11, 12].contains(&number), |wanted| number != wanted) {
+            differs(format!("{kind:?} {c:?}, drawn as {broken:?}, has the number {number}"));
+        }
+    };
+    for kind in [Kind::K, Kind::I] {
+        for call in draw::limits_edges() {
+            one(kind, call, 0x7FF0_0000_0000_0001, t);
+        }
+    }
+    for i in 0..count {
+        let kind = if d.below(2) == 0 { Kind::K } else { Kind::I };
+        let call = draw::call_limits(d, i % 3 == 0);
+        let rubbish = d.bits();
+        one(kind, call, rubbish, t);
+    }
+    let outside: u64 = ways[1..].iter().sum();
+    println!("outside the limits: {outside} of {} calls; by order {}, sign {}, size {}, order and sign {}, order and size {}, sign and size {}, all three {}",
+        t.calls, ways[1], ways[2], ways[4], ways[3], ways[5], ways[6], ways[7]);
+    3 * outside >= t.calls && !ways.contains(&0)
 }
 
 fn short(o: &reference::Outcome) -> String {
@@ -141,7 +181,7 @@ fn record(count: u64, d: &mut Draw) {
 fn main() {
     let a: Vec<String> = std::env::args().skip(1).collect();
     let (Some(entry), Some(count), Some(seed)) = (a.first(), a.get(1).and_then(|s| s.parse::<u64>().ok()), a.get(2).and_then(|s| s.parse::<u64>().ok())) else {
-        eprintln!("usage: oracle log_gamma|i|k|text-i|text-k|record|frames COUNT SEED");
+        eprintln!("usage: oracle log_gamma|i|k|limits|text-i|text-k|record|frames COUNT SEED");
         exit(2);
     };
     let mut d = Draw::new(seed);
@@ -154,8 +194,9 @@ fn main() {
         return;
     }
     println!("oracle {entry}: {count} random calls by the seed {seed}");
-    let mut t = Tally { calls: 0, compared: 0, by_number: [0; 11], branches: [0; 64], longest: [0; 3] };
+    let mut t = Tally { calls: 0, compared: 0, by_number: [0; NUMBERS], branches: [0; 64], longest: [0; 3] };
     let name = entry.trim_start_matches("text-");
+    let mut missed = false;
     match name {
         "log_gamma" => {
             for x in draw::log_gamma_edges() {
@@ -177,6 +218,7 @@ fn main() {
                 bessel(kind, &c, rubbish, name == entry, &mut t);
             }
         }
+        "limits" if name == entry => missed = !limits(count, &mut d, &mut t),
         _ => {
             eprintln!("oracle: no entry point {entry}");
             exit(2);
@@ -185,7 +227,9 @@ fn main() {
     println!("{} calls, {} compared with libcapi.a, none different; longest sum {}, rungs {}, backward steps {}", t.calls, t.compared, t.longest[0], t.longest[1], t.longest[2]);
     let numbers: Vec<String> = t.by_number.iter().enumerate().filter(|(_, n)| **n > 0).map(|(i, n)| format!("{i}: {n}")).collect();
     println!("by number: {}", numbers.join(", "));
-    let mut missed = false;
+    if missed {
+        println!("  a way of lying outside the limits was not met, or fewer than a third of the calls lie there");
+    }
     for (b, what, who) in BRANCHES {
         let n = t.branches[b as usize];
         if who == name || n > 0 {

@@ -28,6 +28,7 @@ pub enum Kind {
     I,
 }
 
+/// The checks that are made before the kernel, in their order: the first that applies.
 fn refused_before(kind: Kind, c: &Call) -> Option<u32> {
     if c.length % 2 == 1 || c.length == 0 || c.length > 1024 {
         return Some(1);
@@ -35,8 +36,14 @@ fn refused_before(kind: Kind, c: &Call) -> Option<u32> {
     if !(c.v.is_finite() && c.re.is_finite() && c.im.is_finite()) {
         return Some(2);
     }
-    if c.v < 0.0 || c.v > 1000.0 || c.re < 0.0 || c.re > 32768.0 || c.im.abs() > 32768.0 {
+    if c.v < 0.0 || c.v > 1000.0 {
         return Some(3);
+    }
+    if c.re < 0.0 {
+        return Some(11);
+    }
+    if c.re > 32768.0 || c.im.abs() > 32768.0 {
+        return Some(12);
     }
     if kind == Kind::K && c.re == 0.0 && c.im == 0.0 {
         return Some(4);

@@ -41,8 +41,14 @@ fn answer(line: &[u8], worth: &[u8; 256], entries: &mut [Complex<f64>], out: &mu
     if !(v.is_finite() && re.is_finite() && im.is_finite()) {
         return refuse(2, out);
     }
-    if !(0.0..=1000.0).contains(&v) || !(0.0..=32768.0).contains(&re) || im.abs() > 32768.0 {
+    if !(0.0..=1000.0).contains(&v) {
         return refuse(3, out);
+    }
+    if re < 0.0 {
+        return refuse(11, out);
+    }
+    if re > 32768.0 || im.abs() > 32768.0 {
+        return refuse(12, out);
     }
     let (z, cells) = (Complex::new(re, im), &mut entries[..n]);
     let scaling = if scaled == 1 { native::Scaling::Scaled } else { native::Scaling::Unscaled };

@@ -15,6 +15,7 @@ use Rattle.call.proofs.FirstFacts.{isOneOf}
 use Rattle.bessel.specs.Arguments.{argumentsOf}
 use Rattle.bessel.specs.Outcome.{Outcome, refusedOutcome}
 use Rattle.bessel.specs.I.{iOutcome}
+use Rattle.bessel.specs.K.{kOutcome}
 use Rattle.bessel.proofs.SeriesOutcome as i
 use Rattle.bessel.proofs.KernelOutcome as k
 use Rattle.frame.specs.declared.asking.Asking.{Asking}
@@ -77,11 +78,11 @@ within (x ∷ xs) ys = isOneOf x ys && within xs ys
 wider : (m : ℕ) (xs ys : List ℕ) → T (within xs ys) → T (isOneOf m xs) → T (isOneOf m ys)
 unfolding within
 wider m [] ys w t = absurd t
-wider m (x ∷ xs) ys w t = by (eqb x m) refl t
+wider m (x ∷ xs) ys w t = by (eqb x m) refl t (wider m xs ys (and-r (isOneOf x ys) (within xs ys) w))
   where
-    by : (b : Bool) → eqb x m ≡ b → T (b || isOneOf m xs) → T (isOneOf m ys)
-    by true e u = subst (λ (n : ℕ). T (isOneOf n ys)) (eqb→eq x m (subst T (sym e) tt)) (and-l (isOneOf x ys) (within xs ys) w)
-    by false e u = wider m xs ys (and-r (isOneOf x ys) (within xs ys) w) u
+    by : (b : Bool) → eqb x m ≡ b → T (b || isOneOf m xs) → (T (isOneOf m xs) → T (isOneOf m ys)) → T (isOneOf m ys)
+    by true e u h = subst (λ (n : ℕ). T (isOneOf n ys)) (eqb→eq x m (subst T (sym e) tt)) (and-l (isOneOf x ys) (within xs ys) w)
+    by false e u h = h u
 
 -- 0, the program's 9, and what K and I can give
 abbrev lineNumbers : List ℕ
@@ -90,9 +91,11 @@ lineNumbers = 0 ∷ 9 ∷ 1 ∷ 2 ∷ 3 ∷ 11 ∷ 12 ∷ 4 ∷ 5 ∷ 6 ∷ 7 �
 called-listed : (kind : Kind) (a : Asking) (n : ℕ) → T (isOneOf (calledAs kind a n .answer .number) lineNumbers)
 unfolding calledAs iOutcome within
 called-listed K a n =
-    wider _ (0 ∷ 1 ∷ 2 ∷ 3 ∷ 11 ∷ 12 ∷ 4 ∷ 6 ∷ 7 ∷ 8 ∷ []) lineNumbers tt (number-of-k (a .scaled) (a .v) (a .re) (a .im) n .no-other)
+    let m = kOutcome (a .scaled) (a .v) (a .re) (a .im) n .answer .number in
+    wider m (0 ∷ 1 ∷ 2 ∷ 3 ∷ 11 ∷ 12 ∷ 4 ∷ 6 ∷ 7 ∷ 8 ∷ []) lineNumbers tt (number-of-k (a .scaled) (a .v) (a .re) (a .im) n .no-other)
 called-listed I a n =
-    wider _ (0 ∷ 1 ∷ 2 ∷ 3 ∷ 11 ∷ 12 ∷ 5 ∷ 8 ∷ []) lineNumbers tt (number-of-series (a .scaled) false (a .v) (a .re) (a .im) n .no-other)
+    let m = iOutcome (a .scaled) (a .v) (a .re) (a .im) n .answer .number in
+    wider m (0 ∷ 1 ∷ 2 ∷ 3 ∷ 11 ∷ 12 ∷ 5 ∷ 8 ∷ []) lineNumbers tt (number-of-series (a .scaled) false (a .v) (a .re) (a .im) n .no-other)
 
 outcome-listed : (p : Parsed) → T (isOneOf (outcomeOf p .answer .number) lineNumbers)
 unfolding outcomeOf calledOf refusedOutcome refusedOf

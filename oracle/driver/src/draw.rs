@@ -401,7 +401,7 @@ pub fn call_limits(d: &mut Draw, outside: bool) -> (Call, Broken) {
     // the size is broken by the real part, by the imaginary part, or by both
     let by = if broken.size { 1 + d.below(3) } else { 0 };
     let v = if broken.order { order_outside(d) } else { order_inside(d) };
-    let mut part = |d: &mut Draw, large: bool, may_vanish: bool| match (large, may_vanish && d.below(8) == 0) {
+    let part = |d: &mut Draw, large: bool, may_vanish: bool| match (large, may_vanish && d.below(8) == 0) {
         (true, _) => part_outside(d),
         (false, true) => 0.0,
         _ => part_inside(d),

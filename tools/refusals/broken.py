@@ -94,6 +94,11 @@ def of_claims(one):
             yield Edit("claims", f"{giver} gives no {one.number}", path, for_all, lambda m: m["a"] + re.sub(rf"(?<!\d){one.number}\s*∷", "", m["l"]))
         else:
             yield Edit("claims", f"{giver} gives {one.number} too", path, rf"(?P<a>^pub record {record}\b{rest}pub listed\b[^≡]*≡)", rf"\g<a> {one.number} ∷")
+    a_line = r"(?P<a>^  pub no-other : \(line\b[^\n]*\(0 ∷)(?P<l>[^\]\n]*)"
+    if {"K", "I", "frame"} & set(one.given_by):
+        yield Edit("claims", f"no line with {one.number}", path, a_line, lambda m: m["a"] + re.sub(rf"(?<!\d){one.number} ∷", "", m["l"]))
+    else:
+        yield Edit("claims", f"a line with {one.number}", path, a_line, rf"\g<a> {one.number} ∷\g<l>")
     if "frame" in one.given_by:
         yield Edit("claims", f"frames get another number than {one.number}", path, rf"(?P<a>number ≡ ){one.number}(?P<b> → parsedOf line ≡ Malformed)", r"\g<a>99\g<b>")
 

@@ -80,7 +80,11 @@ def claims(entries, top):
     got = {giver: sorted(numbers) for giver, numbers in proved_orders(text).items()}
     body = part(text, r"^pub record OfLines\b", r"^\S", "the record OfLines")
     got["frame"] = sorted(set(map(int, re.findall(r"number ≡ (\d+) → parsedOf line ≡ Malformed", body))))
-    return compared(got, {giver: [one.number for one in entries if giver in one.given_by] for giver in listed.GIVERS}, "crates/claims/proofs/Claims.antt")
+    wanted = {giver: [one.number for one in entries if giver in one.given_by] for giver in listed.GIVERS}
+    # an answer line has one of these: what K, I and the program give, and 0
+    got["a line"] = sorted(map(int, re.findall(r"\d+", part(body, r"^  pub no-other : \(line\b[^\n]*\(0", r"\[\]", "the numbers of a line"))))
+    wanted["a line"] = sorted({0}.union(*(wanted[giver] for giver in ("K", "I", "frame"))))
+    return compared(got, wanted, "crates/claims/proofs/Claims.antt")
 
 
 def rows(text, head, what):

@@ -95,7 +95,7 @@ use Rattle.answering.proofs.LineFacts.{asked-line}
 use Rattle.answering.proofs.LengthRefused.{length-called, too-many}
 use Rattle.claims.proofs.Steps.{OfSteps, of-steps}
 use Rattle.claims.proofs.Complexes.{OfComplex, of-complex}
-use Rattle.claims.proofs.LogGammaNumbers.{no-other, no-value}
+use Rattle.claims.proofs.LogGammaNumbers.{no-other, no-value, exported-numbers}
 use Rattle.power_series.specs.Series.{beyondSeries}
 use Rattle.capi.specs.declared.LogGamma as exported
 use Rattle.capi.specs.Outcome.{isScaled, answerOf, outcomeOf as exportedLogGamma}
@@ -339,7 +339,10 @@ pub record OfExports : Type 0 where
   pub k :
       (scaled : ℕ) (v re im : Float) (length : ℕ) →
       let o = kOutcome (isScaled scaled) v re im length in Determined (Gives (answerOf (o .answer)) (o .cells))
-  -- the numbers that C is handed are those of K and of I
+  -- the numbers that C is handed are those of log-gamma, of I and of K
+  pub log-gamma-number :
+      (x : Float) →
+      Given (log-gammas.allChecks x) (exportedLogGamma (logGammaOf x) .number) × T (isOneOf (exportedLogGamma (logGammaOf x) .number) (0 ∷ 2 ∷ 10 ∷ 8 ∷ []))
   pub i-number : (scaled : ℕ) (v re im : Float) (length : ℕ) → NumberOfSeries (isScaled scaled) false v re im length (answerOf (iOutcome (isScaled scaled) v re im length .answer) .number)
   pub k-number : (scaled : ℕ) (v re im : Float) (length : ℕ) → NumberOfK (isScaled scaled) v re im length (answerOf (kOutcome (isScaled scaled) v re im length .answer) .number)
 
@@ -350,6 +353,7 @@ of-exports = record {
   log-gamma = λ x. one-result (exportedLogGamma (logGammaOf x));
   i = λ scaled v re im length. let o = iOutcome (isScaled scaled) v re im length in one-outcome (answerOf (o .answer)) (o .cells);
   k = λ scaled v re im length. let o = kOutcome (isScaled scaled) v re im length in one-outcome (answerOf (o .answer)) (o .cells);
+  log-gamma-number = exported-numbers;
   i-number = λ scaled v re im length. number-of-series (isScaled scaled) false v re im length;
   k-number = λ scaled v re im length. number-of-k (isScaled scaled) v re im length;
 }

@@ -1,5 +1,5 @@
 //! oracle ENTRY COUNT SEED: compares an entry point of libcapi.a (log_gamma, i, k) with the Rust text, bit for bit: values, counts, refusal numbers and every
-//! cell of a buffer that was filled with rubbish first. ENTRY `limits` compares K and I in turn, every third call outside the limits in one, two or three ways.
+//! cell of a buffer that was filled with rubbish first. ENTRY `limits` compares K and I, every third call outside the limits in one, two or three ways.
 //! ENTRY `text-i` or `text-k` compares the text with its counted copy alone. The structured inputs come first
 //! where there are any, then COUNT random ones by SEED. `record` in the place of an ENTRY prints COUNT recorded answers of log-gamma, and `frames` COUNT asking frames each with
 //! its answer line, for replays without Rust. A difference prints the call in hexadecimal and fails the run. At the end: refusals by number, the largest

@@ -7,7 +7,7 @@ use borrow.Author.Tests.{eq-eqb, ne-eqb}
 use lib.Dec.{eqb}
 use lib.ListN.{take}
 use Rattle.answering.specs.Line.{answerLineOf}
-use Rattle.answering.specs.Lines.{newline}
+use Rattle.splitting.specs.Lines.{newline}
 use Rattle.answering.specs.Feed.{mostHeld, Feed, closedOf, stepIf, stepOf, fedOf, owedOf, keptOf}
 
 abbrev pub feed : List ℕ → List ℕ → Feed

@@ -6,7 +6,8 @@ use Prim.Native.Nat.{ℕ, zero, suc}
 use lib.Dec.{eqb}
 use lib.ListN.{take}
 use Rattle.answering.specs.Line.{answerLineOf}
-use Rattle.answering.specs.Lines.{newline, lastOf, linesFrom, linesOf, answersOf, outputOf}
+use Rattle.splitting.specs.Lines.{newline, lastOf, linesFrom, linesOf}
+use Rattle.answering.specs.Lines.{answersOf, outputOf}
 use Rattle.answering.specs.Feed.{mostHeld, Feed, closedOf, stepIf, stepOf, fedOf, endedFrom, endedOf, owedOf, keptOf, handedFrom, joinedOf}
 use Rattle.answering.proofs.LineFacts.{kept}
 use Rattle.answering.proofs.FeedFacts.{feed, kept-append, owed-append}

@@ -6,7 +6,7 @@ use Prim.Native.Nat.{ℕ}
 use lib.Dec.{eqb}
 use lib.ListN.{take}
 use Rattle.answering.specs.Line.{answerLineOf}
-use Rattle.answering.specs.Lines.{newline}
+use Rattle.splitting.specs.Lines.{newline}
 
 -- one byte more than a frame has: a line that is as long or longer is malformed, whatever follows
 abbrev pub mostHeld : ℕ

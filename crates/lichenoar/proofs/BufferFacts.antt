@@ -11,7 +11,7 @@ use Rattle.laws.proofs.Part.{rest-length, put-rest}
 use Rattle.frame.specs.Layout.{longestLine}
 use Rattle.frame.specs.Over.{over}
 use Rattle.frame.proofs.OverFacts.{over-length}
-use Rattle.answering.specs.Lines.{newline}
+use Rattle.splitting.specs.Lines.{newline}
 use Rattle.answering.specs.Feed.{mostHeld, withLine}
 use Rattle.lichenoar.specs.Feed.{mostRoom}
 

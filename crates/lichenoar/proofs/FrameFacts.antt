@@ -17,7 +17,7 @@ use Rattle.frame.proofs.DigitFacts.{both}
 use Rattle.frame.proofs.AskingFacts.{framed-is}
 use Rattle.answering.specs.Line.{parsedLine}
 use Rattle.answering.proofs.LineFacts.{framed-line}
-use Rattle.answering.specs.Lines.{newline}
+use Rattle.splitting.specs.Lines.{newline}
 use Rattle.answering.specs.Feed.{mostHeld, Feed, withLine, closedOf, stepOf, fedOf}
 use Rattle.lichenoar.specs.Feed.{feedOf, frameAhead}
 use Rattle.answering.proofs.FeedFacts.{feed, step-newline, step-other, fed-snoc}

@@ -6,7 +6,7 @@ use native.Mathlib.Nat.{mod-mod, mod-add-mod}
 use native.Mathlib.Omega.{arith}
 use lib.ListN.{length, take, length-append}
 use lib.Seq.{length-take-le}
-use Rattle.answering.specs.Lines.{newline}
+use Rattle.splitting.specs.Lines.{newline}
 use Rattle.answering.specs.Feed.{Feed, stepIf, stepOf, fedOf, endedFrom, owedOf, keptOf}
 use Rattle.lichenoar.specs.Feed.{feedOf}
 use Rattle.lichenoar.specs.Turn.{tallied, Adds, partOf}

@@ -8,7 +8,7 @@ use lib.ListN.{length, take, drop, getD}
 use Rattle.frame.specs.declared.asking.Framed.{Framed}
 use Rattle.frame.specs.declared.asking.Framed.the-variants.{NoFrame}
 use Rattle.frame.specs.Asking.{framedOf}
-use Rattle.answering.specs.Lines.{newline}
+use Rattle.splitting.specs.Lines.{newline}
 use Rattle.answering.specs.Feed.{mostHeld, Feed}
 
 -- the longest answer line and its newline

@@ -7,11 +7,11 @@ use lib.ListN.{getD}
 use Rattle.refusal.specs.Number.{numberOf}
 use Rattle.refusal.specs.declared.refusal.Refusal.{Refusal}
 use Rattle.refusal.specs.declared.refusal.Refusal.the-variants.{Length, NotFinite, Order, Zero, Series, Start, Climb, Overflow, Malformed, NotPositive}
-use Rattle.refusal.specs.declared.refusal.Refusal.the-variants.{Sign, Size}
+use Rattle.refusal.specs.declared.refusal.Refusal.the-variants.{Sign, Size, Steps}
 
 -- the refusals at their numbers; no refusal has the number 0
 caseOf : ℕ → Refusal
-caseOf n = getD (Length ∷ Length ∷ NotFinite ∷ Order ∷ Zero ∷ Series ∷ Start ∷ Climb ∷ Overflow ∷ Malformed ∷ NotPositive ∷ Sign ∷ Size ∷ []) n Length
+caseOf n = getD (Length ∷ Length ∷ NotFinite ∷ Order ∷ Zero ∷ Series ∷ Start ∷ Climb ∷ Overflow ∷ Malformed ∷ NotPositive ∷ Sign ∷ Size ∷ Steps ∷ []) n Length
 
 read-back : (r : Refusal) → caseOf (numberOf r) ≡ r
 unfolding caseOf
@@ -27,6 +27,7 @@ read-back Malformed = refl
 read-back NotPositive = refl
 read-back Sign = refl
 read-back Size = refl
+read-back Steps = refl
 
 pub distinct : (r s : Refusal) → numberOf r ≡ numberOf s → r ≡ s
 distinct r s e = sym (read-back r) ∙ ap caseOf e ∙ read-back s
@@ -45,6 +46,7 @@ in-a-byte Malformed = (lit< tt, lit< tt)
 in-a-byte NotPositive = (lit< tt, lit< tt)
 in-a-byte Sign = (lit< tt, lit< tt)
 in-a-byte Size = (lit< tt, lit< tt)
+in-a-byte Steps = (lit< tt, lit< tt)
 
 pub never-zero : (r : Refusal) → 0 < numberOf r
 never-zero r = in-a-byte r .0

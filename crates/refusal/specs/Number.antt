@@ -2,7 +2,7 @@
 use Prim.Native.Nat.{ℕ}
 use Rattle.refusal.specs.declared.refusal.Refusal.{Refusal}
 use Rattle.refusal.specs.declared.refusal.Refusal.the-variants.{Length, NotFinite, Order, Zero, Series, Start, Climb, Overflow, Malformed, NotPositive}
-use Rattle.refusal.specs.declared.refusal.Refusal.the-variants.{Sign, Size}
+use Rattle.refusal.specs.declared.refusal.Refusal.the-variants.{Sign, Size, Steps}
 
 abbrev pub numberOf : Refusal → ℕ
 numberOf Length = 1
@@ -17,3 +17,4 @@ numberOf Malformed = 9
 numberOf NotPositive = 10
 numberOf Sign = 11
 numberOf Size = 12
+numberOf Steps = 13

@@ -28,6 +28,8 @@ pub enum Refusal {
     Sign,
     // a part is above 32,768 in magnitude
     Size,
+    // a sweep of no steps, or of more than 4,096
+    Steps,
 }
 
 impl Refusal {
@@ -47,6 +49,7 @@ impl Refusal {
             Refusal::NotPositive => 10,
             Refusal::Sign => 11,
             Refusal::Size => 12,
+            Refusal::Steps => 13,
         }
     }
 }

@@ -1,0 +1,2 @@
+-- The definitions, by topic.
+pub mod Lines

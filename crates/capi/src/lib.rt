@@ -14,13 +14,16 @@ ghost use Rattle.circular.specs.CosPi.{cosPiOf};
 ghost use Rattle.angle.specs.Angle.{angleOf};
 ghost use Rattle.rounding.specs.Round.{roundOf};
 ghost use Rattle.gamma_ln.specs.LogGamma.{logGammaOf};
-ghost use Rattle.capi.specs.Outcome.{outcomeOf, isScaled, answerOf};
+ghost use Rattle.frame.specs.Over.{offered};
+ghost use Rattle.sweeping.specs.Sweep.{sweptOf, framesOf};
+ghost use Rattle.capi.specs.Outcome.{outcomeOf, isScaled, answerOf, requestOf, sweepOf};
 ghost use Rattle.bessel.specs.I.{iOutcome};
 ghost use Rattle.bessel.specs.K.{kOutcome};
 ghost use lib.ListN.{length};
 use call::answer;
 use gamma_ln::log_gamma::log_gamma;
 use machine::constants::not_a_number;
+use sweeping::request::Request;
 
 #[no_mangle]
 pub extern "C" fn lichenoar_sqrt(x: f64) -> f64
@@ -168,4 +171,48 @@ pub extern "C" fn lichenoar_k(scaled: u8, v: f64, re: f64, im: f64, out: &mut [f
         × (now (out .exit) ≡ kOutcome (isScaled scaled) v re im (length (now (out .entry))) .cells) ⌝ }
 {
     projected(bessel::k::k(scaled != 0, v, re, im, out))
+}
+
+// The refusal's number or 0, and how many bytes the frames are: 57 a step.
+#[repr(C)]
+pub struct Sweep {
+    pub number: u32,
+    pub needed: u32,
+}
+
+// The frames of an even sweep, a newline behind each, over the first of the lent bytes. Refused, or without room for all of them, it writes nothing.
+#[no_mangle]
+pub extern "C" fn lichenoar_sweep(
+    kind: u8,
+    scaling: u8,
+    n: u32,
+    v: f64,
+    first_re: f64,
+    first_im: f64,
+    last_re: f64,
+    last_im: f64,
+    steps: u32,
+    out: &mut [u8],
+) -> Sweep
+    ensures { λ r. ⌜ (r ≡ sweepOf (sweptOf (requestOf kind scaling n v «first_re» «first_im» «last_re» «last_im» steps)))
+        × (now (out .exit) ≡ offered (framesOf (requestOf kind scaling n v «first_re» «first_im» «last_re» «last_im» steps)) (now (out .entry))) ⌝ }
+{
+    let swept = sweeping::sweep::sweep(
+        Request {
+            kind: kind as u64,
+            scaling: scaling as u64,
+            count: n as u64,
+            v,
+            first_re,
+            first_im,
+            last_re,
+            last_im,
+            steps,
+        },
+        out,
+    );
+    Sweep {
+        number: swept.number,
+        needed: swept.needed,
+    }
 }

@@ -7,4 +7,5 @@ pub mod Numbers
 pub mod LogGammaNumbers
 pub mod Rows
 pub mod Lines
+pub mod Sweeps
 pub mod Claims

@@ -1,1 +1,2 @@
 -- What the functions rest on.
+pub mod EndedFacts

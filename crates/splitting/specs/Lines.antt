@@ -1,5 +1,5 @@
 -- The lines of an input. Definitions only.
-use mathlib.Core.Bool.{cond}
+use mathlib.Core.Bool.{Bool, true, not, cond, _&&_}
 use mathlib.Core.List.{List, [], _∷_, _++_}
 use Prim.Native.Nat.{ℕ}
 use lib.Dec.{eqb}
@@ -19,3 +19,17 @@ linesFrom line (b ∷ bs) = cond (eqb b newline) (line ∷ linesFrom [] bs) (lin
 
 unfoldable pub linesOf : List ℕ → List (List ℕ)
 linesOf input = linesFrom [] input
+
+-- lines, each with its newline
+unfoldable pub endedLines : List (List ℕ) → List ℕ
+endedLines [] = []
+endedLines (line ∷ lines) = line ++ (newline ∷ endedLines lines)
+
+-- no newline in a line, in any line
+unfoldable pub isPlain : List ℕ → Bool
+isPlain [] = true
+isPlain (b ∷ bs) = not (eqb b newline) && isPlain bs
+
+unfoldable pub arePlain : List (List ℕ) → Bool
+arePlain [] = true
+arePlain (line ∷ lines) = isPlain line && arePlain lines

@@ -2,3 +2,6 @@
 pub mod PointFacts
 pub mod SweepFacts
 pub mod LineFacts
+pub mod NumberFacts
+pub mod ReadBack
+pub mod OneFacts

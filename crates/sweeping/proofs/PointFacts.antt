@@ -1,11 +1,14 @@
 -- One frame behind the other: what is written after j points, and one point more. Assumes nothing.
 use mathlib.Core.Path.{_≡_, refl, sym, ap, _∙_, subst}
 use mathlib.Core.List.{List, [], _∷_, _++_, append-assoc}
-use Prim.Native.Nat.{ℕ, zero, suc, _+_, _*_, _≤_, _<_, zero-le}
+use mathlib.Core.Bool.{false}
+use Prim.Native.Nat.{ℕ, zero, suc, _+_, _-_, _*_, _≤_, _<_, zero-le}
 use native.Mathlib.Numerals.{add-one}
 use native.Mathlib.Omega.{arith}
+use lib.Dec.{eqb}
 use lib.Ieee.{Float}
 use lib.ListN.{length, drop, set, length-append}
+use Rattle.laws.specs.Operators.{_⊕_, _⊖_, _⊗_, _⊘_}
 use Rattle.laws.proofs.Seam.{Seam, seam-start, seam-store}
 use Rattle.splitting.specs.Lines.{newline}
 use Rattle.frame.specs.declared.asking.Fields.{Fields}
@@ -15,7 +18,7 @@ use Rattle.frame.specs.Asking.{askingLineOf}
 use Rattle.frame.proofs.OverFacts.{over-length}
 use Rattle.frame.proofs.WriteFacts.{over-next, asking-length}
 use Rattle.sweeping.specs.declared.request.Request.{Request}
-use Rattle.sweeping.specs.Points.{stepOf, partWith, fieldsWith, fieldsAt, framesUpTo}
+use Rattle.sweeping.specs.Points.{whole, stepOf, partWith, partAt, fieldsWith, fieldsAt, framesUpTo}
 use Rattle.sweeping.specs.Sweep.{lineLength}
 
 -- ---- from the start: bytes over the first ones, as a seam and back
@@ -44,6 +47,15 @@ frames-length r zero = refl
 frames-length r (suc j) =
     length-append (framesUpTo r j) (askingLineOf (fieldsAt r j) ++ (newline ∷ []))
     ∙ omega (arith, frames-length r j, line-is r j)
+
+-- ---- a part of a point, as the request has it: of a sweep of one the first itself, and else by the even step
+pub first-alone : (first last : Float) (j : ℕ) → partAt first last 1 j ≡ first
+unfolding partWith
+first-alone first last j = refl
+
+pub even-points : (first last : Float) (s j : ℕ) → eqb s 1 ≡ false → partAt first last s j ≡ first ⊕ whole j ⊗ ((last ⊖ first) ⊘ whole (s - 1))
+unfolding partWith stepOf
+even-points first last s j e = simp e
 
 -- ---- the point's fields, with the step worked out before
 pub fields-at :

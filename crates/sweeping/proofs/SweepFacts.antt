@@ -1,11 +1,11 @@
 -- A sweep by its verdict: admitted, it has as many frames as steps, from 1 to 4,096; refused, none. Assumes nothing.
 use mathlib.Core.Path.{_≡_, refl, sym, ap, _∙_, subst}
-use mathlib.Core.Bool.{Bool, true, false, not, _&&_}
+use mathlib.Core.Bool.{Bool, true, false, not, Bool·not-not}
 use mathlib.Core.List.{List, []}
 use Prim.Native.Nat.{ℕ, _*_, _≤_, _<_}
 use native.Mathlib.Omega.{arith}
 use borrow.Author.Tests.{ltb-true, leb-true}
-use lib.Dec.{ltb, leb}
+use lib.Dec.{T, ltb, leb}
 use lib.ListN.{length}
 use Rattle.refusal.specs.Number.{numberOf}
 use Rattle.refusal.specs.declared.refusal.Refusal.{Refusal}
@@ -13,7 +13,7 @@ use Rattle.refusal.proofs.Distinct.{never-zero}
 use Rattle.call.specs.declared.checks.Verdict.{Verdict}
 use Rattle.call.specs.declared.checks.Verdict.the-variants.{Admitted, Refused}
 use Rattle.call.specs.Checks.{verdictOf, numberGiven, noneApplies}
-use Rattle.call.proofs.FirstFacts.{admitted-none}
+use Rattle.call.proofs.FirstFacts.{given, admitted-none, none-admitted}
 use Rattle.frame.specs.Over.{offered}
 use Rattle.frame.proofs.OverFacts.{over-none, offered-room}
 use Rattle.frame.proofs.DigitFacts.{both}
@@ -25,17 +25,13 @@ use Rattle.sweeping.specs.Sweep.{lineLength, verdictFor, neededBy, frame
 use Rattle.sweeping.proofs.PointFacts.{frames-length}
 
 -- ---- the steps of an admitted sweep
-not-not : (b : Bool) → not (not b) ≡ b
-not-not true = refl
-not-not false = refl
-
 pub steps-are : (s : ℕ) → stepsInside s ≡ true → (1 ≤ s) × (s ≤ 4096)
 unfolding stepsInside
 steps-are s e = let t = both (ltb 0 s) (leb s 4096) e in (ltb-true 0 s (t .0), leb-true s 4096 (t .1))
 
 pub admitted-steps : (r : Request) → verdictOf (sweepChecks r) ≡ Admitted → (1 ≤ r .steps) × (r .steps ≤ 4096)
 unfolding noneApplies sweepChecks
-admitted-steps r e = steps-are (r .steps) (sym (not-not (stepsInside (r .steps))) ∙ both (not (not (stepsInside (r .steps)))) _ (admitted-none (sweepChecks r) e) .0)
+admitted-steps r e = steps-are (r .steps) (sym (Bool·not-not (stepsInside (r .steps))) ∙ both (not (not (stepsInside (r .steps)))) _ (admitted-none (sweepChecks r) e) .0)
 
 -- ---- by the verdict
 pub admitted-swept : (q : Request) → verdictFor q ≡ Admitted → sweptOf q ≡ record { number = 0; needed = q .steps * lineLength }
@@ -103,3 +99,18 @@ module _ (q : Request) where
 
   pub refused-none : 0 < sweptOf q .number → framesOf q ≡ []
   refused-none h = none-if (verdictFor q) refl h
+
+-- ---- by the number: 0 is an accepted sweep
+true-of : (b : Bool) → T b → b ≡ true
+true-of true t = refl
+true-of false t = absurd t
+
+pub accepted : (q : Request) → sweptOf q .number ≡ 0 → verdictFor q ≡ Admitted
+unfolding sweptOf verdictFor
+accepted q e = let cs = sweepChecks (normalisedRequest q) in none-admitted cs (true-of (noneApplies cs) (given cs .none .0 e))
+
+pub accepted-needed : (q : Request) → sweptOf q .number ≡ 0 → sweptOf q .needed ≡ q .steps * lineLength
+accepted-needed q e = ap (λ (s : Swept). s .needed) (admitted-swept q (accepted q e))
+
+pub accepted-frames : (q : Request) → sweptOf q .number ≡ 0 → framesOf q ≡ framesUpTo (normalisedRequest q) (q .steps)
+accepted-frames q e = admitted-frames q (accepted q e)

@@ -3,3 +3,4 @@ pub mod Points
 pub mod Checks
 pub mod Sweep
 pub mod Line
+pub mod ReadBack

@@ -1,5 +1,5 @@
-/* K of orders 0 and 1 at 1 + 0.5i, with the counts of the steps taken; an I of which the low orders are unfinished; then a call that is refused.
-   C99, and C++ too. */
+/* K of orders 0 and 1 at 1 + 0.5i, with the counts of the steps taken; an I of which the low orders are unfinished; a call that is refused; the frames of
+   a sweep. C99, and C++ too. */
 #include "lichenoar.h"
 #include <stdio.h>
 
@@ -27,6 +27,13 @@ static void ask_i(double v, double re) {
     printf("I(%g) to I(%g) at %g: zeros %d, the first %d orders unfinished\n", v, v + 4, re, (int)answer.zeros, unfinished);
 }
 
+/* Scaled K of orders 0.25 and 1.25 at three points from 1.5 - 0.75i to 2.5 + 0.75i: a line each, for the frame program. */
+static void sweep(void) {
+    uint8_t lines[3 * 57];
+    lichenoar_sweep_answer answer = lichenoar_sweep(1, 1, 2, 0.25, 1.5, -0.75, 2.5, 0.75, 3, lines, sizeof lines);
+    if (answer.number == 0 && answer.needed <= sizeof lines) printf("%.*s", (int)answer.needed, (const char *)lines);
+}
+
 int main(void) {
     printf("lichenoar %s\n", LICHENOAR_VERSION);
     ask(0, 1, 0.5);
@@ -34,5 +41,6 @@ int main(void) {
     ask_i(0.5, 3);
     ask_i(368, 38.5);
     ask(0, 0, 0); /* K of zero */
+    sweep();
     return 0;
 }

@@ -1,5 +1,5 @@
-/* Lichenoar from C (C99 and later) and C++: the modified Bessel functions K and I of a complex argument, log-gamma, and the twelve real routines
-   that they stand on.
+/* Lichenoar from C (C99 and later) and C++: the modified Bessel functions K and I of a complex argument, log-gamma, the frames of a sweep, and the twelve
+   real routines that K, I and log-gamma stand on.
 
    Link libcapi.a and -lm. No function allocates, keeps anything between calls, reads a file or sets errno; each may be called from any thread.
    Every result is the same in every bit on every processor. The fixed not-a-number is the pattern 7FF8000000000000.
@@ -7,11 +7,11 @@
    A call of K or I asks for n consecutive orders v, v+1, .., v+n-1 at z = re + im*i and lends 2n cells: the real part of an entry, then its
    imaginary part. Domain: v from 0 to 1000, n from 1 to 512, re from 0 to 32768, im from -32768 to 32768. What cannot be answered is refused by a
    number, and where several apply the first in this order is given. K: 1, 2, 3, 11, 12, 4, 6, 7, 8. I: 1, 2, 3, 11, 12, 5, 8. Log-gamma: 2, 10, 8.
-   A refusal writes the fixed not-a-number into every cell that was lent, and its counts are 0. The numbers, what each says, and what to do about it
-   (9 is the frame program's, and never given here):
+   A sweep: 13, 9, 1, 2, 3, 11, 12. A refusal by K or I writes the fixed not-a-number into every cell that was lent, and its counts are 0; a refused sweep
+   leaves every byte that was lent as it was. The numbers, what each says, and what to do about it:
 
      0   answered
-     1   the number of cells is odd, 0 or above 1,024; ask for 1 to 512 orders, and lend two cells for each
+     1   the number of orders is 0 or above 512, or the number of cells is odd; ask for 1 to 512 orders; where cells are lent, two for each
      2   an argument is infinite or not a number; look at where the argument came from; no setting answers it
      3   the order is not from 0 to 1,000; ask for a first order from 0 to 1,000
      4   K of 0 is infinite; ask at an argument other than 0
@@ -20,10 +20,12 @@
      6   the search for the start of the backward steps found none; no input is known that gets it; please report the frame
      7   the climb out of underflow found no two neighbouring orders on scale; ask scaled
      8   a finished value is not finite; ask plain if it was asked scaled; else for fewer or lower orders, or farther from 0; for log-gamma below 2.55e305
-     9   the line is no frame; write 56 upper-case hexadecimal digits, kind 01 or 02, scaling 00 or 01; take carriage returns away
+     9   no frame or request: a wrong length, digit, kind or scaling; write 56 upper-case hexadecimal digits, 92 for a sweep, kind 01 or 02, scaling 00
+         or 01; take carriage returns away
      10  log-gamma of 0 or less; ask above 0
-     11  the real part is below 0; ask at a real part of 0 or more; -0 counts as 0
+     11  a real part is below 0; ask at real parts of 0 or more; -0 counts as 0
      12  a part is above 32,768 in magnitude; ask at parts from -32,768 to 32,768
+     13  a sweep of no steps or of more than 4,096; ask for 1 to 4,096 steps
 */
 #ifndef LICHENOAR_H
 #define LICHENOAR_H
@@ -32,9 +34,9 @@
 #include <stdint.h>
 
 /* The version that this header came with, as words and as numbers. */
-#define LICHENOAR_VERSION "0.3.0"
+#define LICHENOAR_VERSION "0.4.0"
 #define LICHENOAR_VERSION_MAJOR 0
-#define LICHENOAR_VERSION_MINOR 3
+#define LICHENOAR_VERSION_MINOR 4
 #define LICHENOAR_VERSION_PATCH 0
 
 #ifdef __cplusplus
@@ -59,6 +61,12 @@ typedef struct lichenoar_log_gamma_answer {
     uint32_t number; /* 0 for an answer, else the refusal's number: 2, 8 or 10 */
 } lichenoar_log_gamma_answer;
 
+/* What a sweep returns beside its frames: 8 bytes. */
+typedef struct lichenoar_sweep_answer {
+    uint32_t number; /* 0 where it is not refused, whether or not there was room; else the refusal's number */
+    uint32_t needed; /* how many bytes the frames are: 57 a step, 233472 at most. 0 for a refusal */
+} lichenoar_sweep_answer;
+
 /* K(v), .., K(v+n-1) at re + im*i, where length = 2n: the modified Bessel function of the second kind. scaled: 0 for the values themselves, any other
    for the values times e^z. Unscaled values of a large re underflow: these entries are 0 and come first; `zeros` is how many.
    The record is written to *answer, and `answer` is returned. `out` must lend `length` cells; it may be any pointer, a null one too, where the length
@@ -74,6 +82,18 @@ lichenoar_answer *lichenoar_i(lichenoar_answer *answer, uint8_t scaled, double v
 /* The logarithm of the gamma function of x. Refused by 2 where x is not finite, by 10 where it is 0 or less, by 8 where the value is above the largest
    double (from about 2.56e305). */
 lichenoar_log_gamma_answer lichenoar_log_gamma(double x);
+
+/* The frames of a sweep, as the frame program takes them: `steps` points, even in each part, from first_re + first_im*i to last_re + last_im*i, and at
+   each the same question. kind: 1 for K, 2 for I. scaling: 0 for the values themselves, 1 for scaled ones, and no other. n: how many orders, from 1 to
+   512. v: the first of them. steps: from 1 to 4096. A frame is 56 upper-case hexadecimal digits and a newline, 57 bytes a step; no zero byte stands behind.
+   Point j, from 0, has in each part first + j*((last - first)/(steps - 1)), each operation rounded once: the last point may differ from the last pair in
+   its last bits, and lie past it. For steps = 1 the point is the first pair, and the last pair is not looked at. v and real parts of -0 are made 0. Both
+   ends have to lie in the domain of K and I; a point that K or I would refuse is written all the same.
+   `out` lends `length` bytes. Where these are `needed` or more, the frames are written over the first of them, and those behind stay as they were; where
+   they are fewer, or the sweep is refused, every byte stays. To learn `needed`, lend nothing: with a length of 0 `out` may be any pointer, a null one
+   too. Refused by 13, 9, 1, 2, 3, 11 or 12. */
+lichenoar_sweep_answer lichenoar_sweep(uint8_t kind, uint8_t scaling, uint32_t n, double v, double first_re, double first_im, double last_re,
+                                       double last_im, uint32_t steps, uint8_t *out, size_t length);
 
 /* The twelve real routines. Each is defined for every argument, zeros, infinities and not-a-numbers included; a not-a-number gives the fixed one, but
    for hypot beside an infinity. Each is within 2 units in the last place on a published grid; docs/ACCURACY.md of the repository has the figures. */

@@ -1,6 +1,7 @@
 /* The C interface against known answers. test KNOWN: layouts; every line of KNOWN (bindings/known.txt), bit for bit, in cells full of rubbish with a
-   guard on each side; every length to 1,100; negative counts of I; the real routines as the header has them; the version. The last line says whether
-   all was as stated; a failure names its line and the program ends with 1. */
+   guard on each side; every length to 1,100; negative counts of I; sweeps, every byte of their frames and of what lies around, and each of their refusals;
+   the real routines as the header has them; the version. The last line says whether all was as stated; a failure names its line and the program ends
+   with 1. */
 #include "lichenoar.h"
 #include <stddef.h>
 #include <stdint.h>
@@ -16,6 +17,8 @@ _Static_assert(offsetof(lichenoar_answer, longest_sum) == 8 && offsetof(lichenoa
 _Static_assert(offsetof(lichenoar_answer, backward) == 16, "the record of K and I");
 _Static_assert(sizeof(lichenoar_log_gamma_answer) == 16 && _Alignof(lichenoar_log_gamma_answer) == 8, "the record of log-gamma");
 _Static_assert(offsetof(lichenoar_log_gamma_answer, value) == 0 && offsetof(lichenoar_log_gamma_answer, number) == 8, "the record of log-gamma");
+_Static_assert(sizeof(lichenoar_sweep_answer) == 8 && _Alignof(lichenoar_sweep_answer) == 4, "the record of a sweep");
+_Static_assert(offsetof(lichenoar_sweep_answer, number) == 0 && offsetof(lichenoar_sweep_answer, needed) == 4, "the record of a sweep");
 
 static int failed, line;
 
@@ -144,6 +147,182 @@ static void stops(void) {
     printf("negative counts of I: %d, of them with orders below the stop: %d\n", negative, below);
 }
 
+enum { FRAME = 57, MOST = 4096, SIDE = 64 };
+
+typedef struct {
+    uint8_t kind, scaling;
+    uint32_t n;
+    double v, re, im, to_re, to_im;
+    uint32_t steps;
+} sweep;
+
+static uint8_t bytes[SIDE + FRAME * MOST + SIDE], frames[FRAME * MOST];
+static int sweeps;
+
+static uint8_t rubbish(size_t at) { return (uint8_t)(at * 29 + 7); }
+
+/* One part of point j. Each result is stored before the next operation, so that none is joined with another. */
+static double part(double first, double last, uint32_t steps, uint32_t j) {
+    volatile double difference = last - first, step, way;
+    if (steps == 1) return first;
+    step = difference / (double)(steps - 1);
+    way = step * (double)j;
+    return first + way;
+}
+
+static double plus_zero(double x) { return x == 0 ? 0 : x; }
+
+static size_t put(size_t at, int digits, uint64_t x) {
+    while (digits-- > 0) frames[at++] = (uint8_t)"0123456789ABCDEF"[x >> 4 * digits & 15];
+    return at;
+}
+
+/* The frames that are expected of a sweep. */
+static void frames_of(const sweep *s) {
+    size_t at = 0;
+    for (uint32_t j = 0; j < s->steps; j++) {
+        at = put(put(put(at, 2, s->kind), 2, s->scaling), 4, s->n);
+        at = put(at, 16, bits(plus_zero(s->v)));
+        at = put(at, 16, bits(part(plus_zero(s->re), plus_zero(s->to_re), s->steps, j)));
+        at = put(at, 16, bits(part(s->im, s->to_im, s->steps, j)));
+        frames[at++] = '\n';
+    }
+}
+
+/* One call that lends `length` bytes, at a place that is not always even. Written are the expected frames or nothing, and no other byte. */
+static void lent(const sweep *s, uint32_t number, size_t length) {
+    size_t needed = number ? 0 : (size_t)FRAME * s->steps, written = needed <= length ? needed : 0, begin = SIDE - sweeps % 16, different = 0;
+    for (size_t i = 0; i < sizeof bytes; i++) bytes[i] = rubbish(i);
+    lichenoar_sweep_answer a = lichenoar_sweep(s->kind, s->scaling, s->n, s->v, s->re, s->im, s->to_re, s->to_im, s->steps, bytes + begin, length);
+    CHECK(a.number == number && a.needed == needed);
+    for (size_t i = 0; i < sizeof bytes; i++) different += bytes[i] != (i >= begin && i - begin < written ? frames[i - begin] : rubbish(i));
+    CHECK(different == 0);
+    sweeps++;
+}
+
+/* Room for exactly its frames, a byte less, a frame less, a byte more, all there is, nothing, and nothing at no place. */
+static void accepted(sweep s) {
+    lichenoar_sweep_answer a = lichenoar_sweep(s.kind, s.scaling, s.n, s.v, s.re, s.im, s.to_re, s.to_im, s.steps, 0, 0);
+    size_t needed = (size_t)FRAME * s.steps;
+    frames_of(&s);
+    CHECK(a.number == 0 && a.needed == needed);
+    lent(&s, 0, needed);
+    lent(&s, 0, needed - 1);
+    lent(&s, 0, needed - FRAME);
+    lent(&s, 0, needed + 1);
+    lent(&s, 0, FRAME * MOST);
+    lent(&s, 0, 0);
+}
+
+static void refused(sweep s, uint32_t number) {
+    lichenoar_sweep_answer a = lichenoar_sweep(s.kind, s.scaling, s.n, s.v, s.re, s.im, s.to_re, s.to_im, s.steps, 0, 0);
+    CHECK(a.number == number && a.needed == 0);
+    lent(&s, number, 0);
+    lent(&s, number, FRAME * MOST);
+}
+
+/* Sets one field of s, and is s. */
+#define WITH(s, field, value) ((s).field = (value), (s))
+
+static void accepted_sweeps(double none, double up) {
+    const sweep plain = {1, 1, 2, 0.25, 1.5, -0.75, 2.5, 0.75, 3};
+    static const uint32_t counts[] = {1, 2, 3, 4, 10, 100, 1000, 4095, 4096};
+    sweep s = plain;
+    accepted(s);
+    /* the bytes themselves, once: re goes 1.5, 2, 2.5 and im -0.75, 0, 0.75 */
+    lichenoar_sweep(1, 1, 2, 0.25, 1.5, -0.75, 2.5, 0.75, 3, bytes, sizeof bytes);
+    bytes[3 * FRAME] = 0;
+    CHECK(strcmp((const char *)bytes, "010100023FD00000000000003FF8000000000000BFE8000000000000\n"
+                                      "010100023FD000000000000040000000000000000000000000000000\n"
+                                      "010100023FD000000000000040040000000000003FE8000000000000\n") == 0);
+    for (size_t i = 0; i < sizeof counts / sizeof *counts; i++) {
+        s = (sweep){2, 0, 512, 1000, 0.1, 32768, 0.7, -32768, counts[i]};
+        accepted(s);
+        s = (sweep){1, 0, 1, value(1), 32768, -0.0, 0, 0, counts[i]};
+        accepted(s);
+    }
+    /* of one step the last pair is not looked at, and the first keeps its bits, but for a real -0 */
+    s.steps = 1;
+    accepted(WITH(s, to_re, none));
+    accepted(WITH(s, to_im, -up));
+    accepted(WITH(s, to_re, -1));
+    accepted(WITH(s, to_im, 1e300));
+    s = (sweep){1, 0, 1, -0.0, -0.0, -0.0, -1, none, 1};
+    accepted(s);
+    lichenoar_sweep(1, 0, 1, -0.0, -0.0, -0.0, -1, none, 1, bytes, FRAME);
+    bytes[FRAME] = 0;
+    CHECK(strcmp((const char *)bytes, "01000001000000000000000000000000000000008000000000000000\n") == 0);
+    /* the last point past the last pair, and below 0 */
+    s = (sweep){1, 0, 1, 0, 0.3, 0.3, 0.9, 0.9, 3};
+    accepted(s);
+    CHECK(part(0.3, 0.9, 3, 2) > 0.9);
+    s = (sweep){1, 0, 1, 0, 3.1, 0, 0, 0, 4};
+    accepted(s);
+    CHECK(part(3.1, 0, 4, 3) < 0);
+}
+
+/* Every fault at once, and each mended in turn: the numbers come in the order of the checks. */
+static void refused_in_order(double none) {
+    sweep s = {3, 2, 513, none, -1, 32769, -2, -32769, 4097};
+    refused(s, 13);
+    refused(WITH(s, steps, 0), 13);
+    refused(WITH(s, steps, 2), 9);
+    refused(WITH(s, kind, 1), 9);
+    refused(WITH(s, scaling, 1), 1);
+    refused(WITH(s, n, 512), 2);
+    refused(WITH(s, v, -1), 3);
+    refused(WITH(s, v, 1000), 11);
+    refused(WITH(s, re, 1), 11);
+    refused(WITH(s, to_re, 2), 12);
+    refused(WITH(s, im, 32768), 12);
+    accepted(WITH(s, to_im, -32768));
+}
+
+static void refused_sweeps(double none, double up) {
+    const sweep plain = {1, 1, 2, 0.25, 1.5, -0.75, 2.5, 0.75, 3};
+    static const uint32_t steps[] = {0, 4097, 65536, 65537, 75350304, 0x80000001u, 0xFFFFFFFFu}, orders[] = {0, 513, 65536, 65537, 0x80000001u, 0xFFFFFFFFu};
+    const double infinite[] = {none, -none, up, -up}, left[] = {-1, -value(1), -32769}, large[] = {32769, value(0x40E0000000000001u), 1e300};
+    sweep s = plain;
+    for (size_t i = 0; i < sizeof steps / sizeof *steps; i++) refused(WITH(s, steps, steps[i]), 13);
+    s = plain;
+    for (size_t i = 0; i < sizeof orders / sizeof *orders; i++) refused(WITH(s, n, orders[i]), 1);
+    for (unsigned byte = 0; byte < 256; byte++) {
+        sweep k = plain, c = plain;
+        k.kind = c.scaling = (uint8_t)byte;
+        frames_of(&k);
+        lent(&k, byte == 1 || byte == 2 ? 0 : 9, FRAME * 3);
+        frames_of(&c);
+        lent(&c, byte < 2 ? 0 : 9, FRAME * 3);
+    }
+    for (size_t i = 0; i < 4; i++) {
+        s = plain, refused(WITH(s, v, infinite[i]), 2);
+        s = plain, refused(WITH(s, re, infinite[i]), 2);
+        s = plain, refused(WITH(s, im, infinite[i]), 2);
+        s = plain, refused(WITH(s, to_re, infinite[i]), 2);
+        s = plain, refused(WITH(s, to_im, infinite[i]), 2);
+    }
+    s = plain, refused(WITH(s, v, -value(1)), 3);
+    s = plain, refused(WITH(s, v, value(0x408F400000000001u)), 3);
+    for (size_t i = 0; i < 3; i++) {
+        s = plain, refused(WITH(s, re, left[i]), 11);
+        s = plain, refused(WITH(s, to_re, left[i]), 11);
+        s = plain, refused(WITH(s, re, large[i]), 12);
+        s = plain, refused(WITH(s, to_re, large[i]), 12);
+        s = plain, refused(WITH(s, im, large[i]), 12);
+        s = plain, refused(WITH(s, im, -large[i]), 12);
+        s = plain, refused(WITH(s, to_im, large[i]), 12);
+        s = plain, refused(WITH(s, to_im, -large[i]), 12);
+    }
+}
+
+static void swept(void) {
+    double up = value(0x7FF0000000000000u), none = value(FIXED);
+    accepted_sweeps(none, up);
+    refused_in_order(none);
+    refused_sweeps(none, up);
+    printf("sweeps, by every room and every refusal: %d calls\n", sweeps);
+}
+
 #define WORDS(x) #x
 #define SHOWN(x) WORDS(x)
 
@@ -180,6 +359,7 @@ int main(int argc, char **argv) {
     line = 0;
     lengths();
     stops();
+    swept();
     routines();
     version();
     printf("C interface: %s\n", failed ? "DIFFERENT" : "as stated");

@@ -23,6 +23,8 @@ USAGE = """usage: tools/frames/picture.py ASKED ANSWERED [options] > FILE.svg
        tools/frames/picture.py ASKED --ask [options] > FILE.svg
 Draws one entry of a sweep, modulus above and angle below, from its asking frames and the answer lines of ./run, a file each.
   --ask          passes the frames of ASKED through ./run itself
+  --over OTHER   with --ask: draws the plain function over ASKED divided by that over OTHER, another file of as many frames, point by
+                 point. Division and scaling back are done here, in f64, and nothing is proved of them
   --entry K      which entry of each answer: 0, the first order, where it is left out
   --along WHAT   the horizontal axis: re, im or modulus of the argument z, or point, the number of the point, from 0.
                  Where it is left out: re or im, whichever alone moves, else point
@@ -34,12 +36,13 @@ Draws one entry of a sweep, modulus above and angle below, from its asking frame
                  which is a guess where the points are far apart, and begins anew behind a gap
 A refused point is a gap in both curves, a grey band with the refusal's number at its foot; so is a value of 0, which has no angle and no
 logarithm, and one that is not finished. A scaled answer is drawn as it is, scaled. The modulus has a logarithmic axis where it spans more
-than two decades, and so has a horizontal axis with --power; it is said there. No axis spans less than a millionth of its values, nor the
-angle's less than a thousandth of a degree. All frames must be of one kind, scaling and first order. ASKED may be /dev/stdin.
+than two decades, and a horizontal axis with --power has one where it spans more than one; it is said there. No axis spans less than a
+millionth of its values, nor the angle's less than a thousandth of a degree. All frames must be of one kind, scaling and first order. ASKED
+may be /dev/stdin.
 Status: 0 drawn, 1 the lines do not make a sweep or something failed, 2 the words cannot be taken.
 """
 ALONG = {"re": "re of z", "im": "im of z", "modulus": "modulus of z", "point": "number of the point, from 0"}
-VALUED = ("--entry", "--along", "--factor", "--power", "--label", "--title")
+VALUED = ("--over", "--entry", "--along", "--factor", "--power", "--label", "--title")
 OPTIONS = ("--ask", "--wrap", "--help", "-h")
 LONGEST = 80
 
@@ -79,6 +82,8 @@ def asked(words):
         raise Wrong(f"{', '.join(wanted[len(files):])}: missing; see --help")
     if len(files) > len(wanted):
         raise Wrong(f"{visible(files[len(wanted)])}: one file too many{' with --ask' if '--ask' in options else ''}; see --help")
+    if "--over" in options and "--ask" not in options:
+        raise Wrong("--over goes with --ask alone; see --help")
     return files, checked(options)
 
 
@@ -191,30 +196,42 @@ def placed(at, fields, along, factor, power):
     except (ZeroDivisionError, OverflowError):
         place = math.inf
     if isinstance(place, complex) or not math.isfinite(place):
-        raise Wrong(f"point {at}: {decimal(factor)} times {decimal(part)} to the power {decimal(power)} has no place on an axis; take another --power or --along")
+        text = f"{decimal(factor)} times {decimal(part)} to the power {decimal(power)}"
+        raise Wrong(f"point {at}: {text} has no place on an axis; take another --power or --along")
     return place
 
 
-def valued(given, pairs, entry):
-    """The value of an entry, or why there is none."""
-    if given:
-        return None, given
-    value = complex(*pairs[entry])
+def judged(value):
+    """A value that can be drawn, or why it cannot."""
     if cmath.isnan(value):
         return None, OPEN
-    if math.isinf(math.hypot(*pairs[entry])):
+    if math.isinf(math.hypot(value.real, value.imag)):
         return None, INFINITE
     return (value, None) if value else (None, ZERO)
 
 
-def points_of(frames, answers, along, options):
-    entry, points = options["--entry"], []
-    for at, (fields, (record, pairs)) in enumerate(zip(frames, answers)):
+def values_of(answers, entry):
+    """The value of an entry at each point, or why there is none."""
+    for at, (record, pairs) in enumerate(answers):
         if not record[0] and entry >= len(pairs):
             raise Wrong(f"point {at} has {counted(len(pairs), 'entry').replace('entrys', 'entries')}, so none of number {entry}, counted from 0")
-        place = placed(at, fields, along, options["--factor"], options["--power"])
-        points.append(Point(place, *valued(record[0], pairs, entry)))
-    return points
+        yield (None, record[0]) if record[0] else judged(complex(*pairs[entry]))
+
+
+def ratio(one, other, fields, under):
+    """The ratio of two values, both scaled back where they are scaled: K is e^-z times what was answered, I is e^re times it."""
+    if one[1] is not None or other[1] is not None:
+        return None, other[1] if one[1] is None else one[1]
+    back = complex(*under[4:]) - complex(*fields[4:]) if fields[0] == KINDS["K"] else fields[4] - under[4]
+    try:
+        value = one[0] / other[0] * cmath.exp(back if fields[1] else 0)
+    except OverflowError:
+        return None, INFINITE
+    return (None, INFINITE) if cmath.isnan(value) else judged(value)
+
+
+def points_of(frames, values, along, options):
+    return [Point(placed(at, fields, along, options["--factor"], options["--power"]), *value) for at, (fields, value) in enumerate(zip(frames, values))]
 
 
 def runs(points):
@@ -266,7 +283,8 @@ class Linear:
 
     def __init__(self, values, least=Fraction(0), steps=(), whole=False):
         low, high = Fraction(min(values)), Fraction(max(values))
-        least = max(least, Fraction(max(abs(low), abs(high)), 5 if low == high else 10**6)) or Fraction(2)
+        size = max(abs(low), abs(high))
+        least = max(least, (size / 5 or Fraction(2)) if low == high else size / 10**6)
         if high - low < least:
             low, high = (low + high - least) / 2, (low + high + least) / 2
         self.low, self.span, self.steps, self.whole = low, high - low, steps, whole
@@ -316,15 +334,15 @@ class Logarithmic:
         return [((exponent + math.log10(one) - low) / self.span, label) for (exponent, one), label in zip(found, labels)]
 
 
-def wide(values):
-    """Whether positive values span more than two decades."""
-    return min(values) > 0 and Fraction(max(values)) > 100 * Fraction(min(values))
+def wide(values, times):
+    """Whether values are positive, and the largest is more than so many times the least."""
+    return min(values) > 0 and Fraction(max(values)) > times * Fraction(min(values))
 
 
 def along_axis(points, along, options):
     """The horizontal axis."""
     places = [point.place for point in points]
-    if options["--power"] != 1 and wide(places):
+    if options["--power"] != 1 and wide(places, 10):
         return Logarithmic(places)
     return Linear(places, whole=along == "point" and options["--factor"] == options["--power"] == 1)
 
@@ -350,7 +368,7 @@ def folded(text, size, width):
     return lines
 
 
-def text_at(x, y, text, size=12, more=""):
+def text_at(x, y, text, size, more=""):
     return f'<text x="{x:.1f}" y="{y:.1f}" font-size="{size}"{more}>{escape(text)}</text>'
 
 
@@ -390,7 +408,10 @@ def curve(points, panel, across, upward, wrapped):
             path = " ".join(f"{across(points[at].place):.2f},{upward(panel.heights[at]):.2f}" for at in piece)
             out.append(f'<polyline class="{panel.name}" fill="none" stroke="{panel.colour}" stroke-width="1.6" stroke-linejoin="round" points="{path}"/>')
             dots += piece if len(points) <= 100 or len(piece) == 1 else []
-    return out + [f'<circle class="{panel.name}" cx="{across(points[at].place):.2f}" cy="{upward(panel.heights[at]):.2f}" r="2.2" fill="{panel.colour}"/>' for at in dots]
+    for at in dots:
+        x, y = across(points[at].place), upward(panel.heights[at])
+        out.append(f'<circle class="{panel.name}" cx="{x:.2f}" cy="{y:.2f}" r="2.2" fill="{panel.colour}"/>')
+    return out
 
 
 def bands(points, across, left, right):
@@ -486,17 +507,22 @@ def argument(fields):
     return f"{short(fields[4])} {'-' if math.copysign(1, fields[5]) < 0 else '+'} {short(abs(fields[5]))} i"
 
 
-def picture(frames, points, along, options, meanings):
-    """The whole picture, as text."""
+def stretch(frames):
+    """From where to where a sweep goes, in words."""
+    return f"from z = {argument(frames[0])} to z = {argument(frames[-1])}" if len(frames) > 1 else f"at z = {argument(frames[0])}"
+
+
+def picture(frames, under, points, along, options, meanings):
+    """The whole picture, as text; under is the sweep that was divided by, if any."""
     kind, scaling, _, order, *_ = frames[0]
     name = {number: letter for letter, number in KINDS.items()}[kind]
-    function = name + ({"K": " times e^z", "I": " times e^-re"}[name] if scaling else "")
-    wrap, by_power = "--wrap" in options, options["--power"] != 1
+    function = f"{name} over {name}" if under else name + ({"K": " times e^z", "I": " times e^-re"}[name] if scaling else "")
+    wrap = "--wrap" in options
     angles = angles_of(points, wrap)
     moduli = {at: abs(points[at].value) for at in angles}
     panels = []
     if angles:
-        logarithmic = wide(moduli.values())
+        logarithmic = wide(moduli.values(), 100)
         modulus_axis = Logarithmic(moduli.values()) if logarithmic else Linear(moduli.values())
         panels.append(Panel("modulus", f"modulus of {function}{', logarithmic axis' if logarithmic else ''}", BLUE, modulus_axis, moduli))
         angle_axis = Linear((-180, 180) if wrap else angles.values(), Fraction(1, 1000), TURNS)
@@ -515,16 +541,18 @@ def picture(frames, points, along, options, meanings):
     title = options.get("--title", f"{function}, order {decimal(order + options['--entry'])}")
     sheet = Sheet()
     sheet.words(title, 16, left, f' font-weight="bold" fill="{INK}"')
-    ends = f"from z = {argument(frames[0])} to z = {argument(frames[-1])}" if len(frames) > 1 else f"at z = {argument(frames[0])}"
     refusals = sum(isinstance(point.why, int) for point in points)
     outcome = "all answered" if not refusals else f"{len(points) - refusals} answered, {refusals} refused"
-    sheet.words(f"{counted(len(points), 'point')} {ends}; {outcome}", 12, left, f' fill="{INK}"')
+    sheet.words(f"{counted(len(points), 'point')} {stretch(frames)}{'' if under else '; ' + outcome}", 12, left, f' fill="{INK}"')
+    if under:
+        sheet.words(f"over those {stretch(under)}; {outcome}", 12, left, f' fill="{INK}"')
     for panel in panels:
         draw_panel(sheet, panel, points, across, left, ticks_along, wrap)
     for at, label in ticks_along:
         sheet.parts.append(text_at(at, sheet.down + 19, label, 12, f' class="along" text-anchor="middle" fill="{INK}"'))
-    own = (f"{decimal(options['--factor'])} times " if options["--factor"] != 1 else "") + ALONG[along] + (f", to the power {decimal(options['--power'])}" if by_power else "")
-    label = options.get("--label", own) + (", logarithmic axis" if isinstance(axis, Logarithmic) else "")
+    times = f"{decimal(options['--factor'])} times " if options["--factor"] != 1 else ""
+    powered = f", to the power {decimal(options['--power'])}" if options["--power"] != 1 else ""
+    label = options.get("--label", times + ALONG[along] + powered) + (", logarithmic axis" if isinstance(axis, Logarithmic) else "")
     sheet.down += 22
     for line in folded(label, 13, WIDTH - 32):
         sheet.down += LINE
@@ -540,6 +568,21 @@ def picture(frames, points, along, options, meanings):
     return "\n".join(head + sheet.parts + ["</svg>"]) + "\n"
 
 
+def drawn(files, options):
+    """The picture of what the files hold, and the status."""
+    frames, answers = sweep_of(files, "--ask" in options)
+    values, under = list(values_of(answers, options["--entry"])), []
+    if "--over" in options:
+        under, answers = sweep_of([options["--over"]], True)
+        if len(under) != len(frames) or under[0][:2] + under[0][3:4] != frames[0][:2] + frames[0][3:4]:
+            both = f"{visible(files[0])} and {visible(options['--over'])}"
+            raise Wrong(f"{both} differ in their number of frames, kind, scaling or first order, so that they have no ratio")
+        values = list(map(ratio, values, values_of(answers, options["--entry"]), frames, under))
+    along = options.get("--along") or moving(frames)
+    meanings, status = known("picture")
+    return picture(frames, under, points_of(frames, values, along, options), along, options, meanings), status
+
+
 def main(words):
     try:
         if "--help" in words or "-h" in words:
@@ -550,11 +593,7 @@ def main(words):
             except Wrong as wrong:
                 say(f"picture: {wrong}")
                 return 2
-            frames, answers = sweep_of(files, "--ask" in options)
-            along = options.get("--along") or moving(frames)
-            points = points_of(frames, answers, along, options)
-            meanings, status = known("picture")
-            text = picture(frames, points, along, options, meanings)
+            text, status = drawn(files, options)
     except Wrong as wrong:
         say(f"picture: {wrong}")
         return 1

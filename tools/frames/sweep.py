@@ -96,7 +96,8 @@ def frames_of(fields):
         raise Wrong(refused(given, known("sweep")[0]))
     lines = text.split(b"\n")
     if len(lines) != fields[-1] + 1 or lines[-1] or ran:
-        raise Wrong(f"./run sweep gave {counted(len(lines) - 1, 'line')} for {counted(fields[-1], 'step')}, and ended with {ran}")
+        rest = " and a part of one" if lines[-1] else ""
+        raise Wrong(f"./run sweep gave {counted(len(lines) - 1, 'line')}{rest} for {counted(fields[-1], 'step')}, and ended with {ran}")
     for at, line in enumerate(lines[:-1], 1):
         if not re.fullmatch(rb"[0-9A-F]{56}", line):
             raise Wrong(f"line {at} of ./run sweep is no asking frame: {visible(line.decode('ascii', 'backslashreplace'))}")

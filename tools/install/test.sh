@@ -112,8 +112,9 @@ assert sys.argv[3] in page.split("\n")[1]
 for line in open(sys.argv[2], encoding="utf-8"):
     if line.strip() and not line.startswith("#"):
         number, _, givers, words, remedy = [part.strip() for part in line.split(" | ")]
-        assert (f".B {number}\n{words}.\n" in shown) == (givers != "log-gamma"), number
-        assert (f"\n{remedy[0].upper()}{remedy[1:]}.\n" in shown) == (givers != "log-gamma"), number
+        of_frames = not {"K", "I", "frame"}.isdisjoint(givers.split())
+        assert (f".B {number}\n{words}.\n" in shown) == of_frames, number
+        assert (f"\n{remedy[0].upper()}{remedy[1:]}.\n" in shown) == of_frames, number
 END
 if command -v man > /dev/null; then
     LC_ALL=C.UTF-8 MANWIDTH=80 man --warnings -E UTF-8 -l "$there/share/man/man1/lichenoar.1" > "$room/page" 2> "$room/said" || fail "man"

@@ -86,14 +86,21 @@ def of_crate(one, entries):
 
 
 def of_claims(one):
-    path = "crates/claims/proofs/Claims.antt"
-    for giver, record in (("K", "OfK"), ("I", "OfSeries"), ("log-gamma", "OfLogGamma")):
-        rest = r"(?:(?!\n\S).)*?"
+    rest = r"(?:(?!\n\S).)*?"
+    for giver, (path, record) in same.RECORDS.items():
         if giver in one.given_by:
             for_all = rf"(?P<a>^pub record {record}\b{rest}pub listed\b[^≡]*≡)(?P<l>(?:\s*\d+\s*∷)+)"
             yield Edit("claims", f"{giver} gives no {one.number}", path, for_all, lambda m: m["a"] + re.sub(rf"(?<!\d){one.number}\s*∷", "", m["l"]))
         else:
             yield Edit("claims", f"{giver} gives {one.number} too", path, rf"(?P<a>^pub record {record}\b{rest}pub listed\b[^≡]*≡)", rf"\g<a> {one.number} ∷")
+    for giver, field in same.NO_OTHER:
+        path, record = same.RECORDS[giver]
+        all_that = rf"(?P<a>^pub record {record}\b{rest}pub {field} :{rest}\(0 ∷)(?P<l>[^\]]*)"
+        if giver in one.given_by:
+            yield Edit("claims", f"{giver}, {field} without {one.number}", path, all_that, lambda m: m["a"] + re.sub(rf"(?<!\d){one.number} ∷", "", m["l"]))
+        else:
+            yield Edit("claims", f"{giver}, {field} with {one.number}", path, all_that, rf"\g<a> {one.number} ∷\g<l>")
+    path = same.CLAIMS
     a_line = r"(?P<a>^  pub no-other : \(line\b[^\n]*\(0 ∷)(?P<l>[^\]\n]*)"
     if {"K", "I", "frame"} & set(one.given_by):
         yield Edit("claims", f"no line with {one.number}", path, a_line, lambda m: m["a"] + re.sub(rf"(?<!\d){one.number} ∷", "", m["l"]))
@@ -101,6 +108,8 @@ def of_claims(one):
         yield Edit("claims", f"a line with {one.number}", path, a_line, rf"\g<a> {one.number} ∷\g<l>")
     if "frame" in one.given_by:
         yield Edit("claims", f"frames get another number than {one.number}", path, rf"(?P<a>number ≡ ){one.number}(?P<b> → parsedOf line ≡ Malformed)", r"\g<a>99\g<b>")
+        no_request = rf"(?P<a>NoRequest → \(lineSwept line \.number ≡ ){one.number}(?=\))"
+        yield Edit("claims", f"requests get another number than {one.number}", same.SWEEPS, no_request, r"\g<a>99")
 
 
 def swapped(match):
@@ -111,16 +120,17 @@ def swapped(match):
 def of_order():
     for path, givers in same.ORDERED.items():
         for giver in givers:
-            named = rf"(?<![\w-]){giver if giver != 'log-gamma' else '[Ll]og-gamma'}: "
+            named = rf"(?<![\w-]){same.NAMED[giver]}: "
             yield Edit("order", f"the order of {giver}", path, rf"(?P<a>{named})(?P<b>\d+)(?P<c>, )(?P<d>\d+)(?=[, ]|\n)", swapped)
             yield Edit("order", f"the order of {giver} without its first", path, rf"(?P<a>{named})\d+, (?=\d)", r"\g<a>")
             yield Edit("order", f"no order of {giver}", path, rf"{named}(?=\d+, )", "")
     for last in ("6, 7", "5"):
         behind = rf"(?P<a>Refused by (?:\d+,\s+)*)(?P<b>11)(?P<c>, )(?P<d>12)(?=,\s+(?:4,\s+)?{last} or 8\.)"
         yield Edit("order", f"what refuses, to {last} or 8", "bindings/c/lichenoar.h", behind, swapped)
-    for record in ("OfK", "OfSeries"):
-        listed_as = rf"(?P<a>^pub record {record}\b(?:(?!\n\S).)*?pub listed\b[^≡]*≡ 1 ∷ 2 ∷ 3 ∷ )(?P<b>11)(?P<c> ∷ )(?P<d>12)(?= ∷)"
-        yield Edit("order", f"the order that {record} has", "crates/claims/proofs/Claims.antt", listed_as, swapped)
+    yield Edit("order", "what refuses a sweep", "bindings/c/lichenoar.h", r"(?P<a>Refused by )(?P<b>13)(?P<c>,\s+)(?P<d>9)(?=,)", swapped)
+    for path, record in same.RECORDS.values():
+        listed_as = rf"(?P<a>^pub record {record}\b(?:(?!\n\S).)*?pub listed\b[^≡]*≡\s*)(?P<b>\d+)(?P<c> ∷ )(?P<d>\d+)(?= ∷)"
+        yield Edit("order", f"the order that {record} has", path, listed_as, swapped)
 
 
 def of_frames(one):

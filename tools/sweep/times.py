@@ -22,17 +22,17 @@ def compiled(folder, name, *more):
 
 
 def program_at_hand():
-    """The words that start the program, and what is to be said of it; none where there is no program."""
+    """The words that start the program, none where there is none; what is to be said of it; whether it is emulated."""
     native, proved = (os.path.join(TOP, "target", where, "sweep") for where in ("host", "bin"))
     if os.path.exists(native) and not (os.path.exists(proved) and os.path.getmtime(proved) > os.path.getmtime(native)):
-        return [native], "compiled for this processor"
+        return [native], "compiled for this processor", False
     if not os.path.exists(proved):
-        return None, "there is no target/bin/sweep: only the reference is timed"
+        return None, "there is no target/bin/sweep: only the reference is timed", False
     script = '. tools/host/kit.sh; printf "%s\\n" "${kit_command[@]}"'
     told = subprocess.run(["bash", "-c", script], cwd=TOP, stdout=subprocess.PIPE, text=True, check=True).stdout
     words = [word for word in told.split("\n") if word]
     emulated = any("qemu" in os.path.basename(word) for word in words)
-    return words + [proved], "UNDER THE EMULATOR, the reference is not: no measure; the function's ratio is" if emulated else "target/bin/sweep"
+    return words + [proved], "under the emulator, the reference is not: no measure, the function's ratio is" if emulated else "target/bin/sweep", emulated
 
 
 def requests(number):
@@ -65,12 +65,13 @@ def program_times(folder, words, rounds, sweeps):
 def main():
     rounds = int(sys.argv[1]) if len(sys.argv) > 1 else 15
     sweeps = int(sys.argv[2]) if len(sys.argv) > 2 else 1000
-    words, said = program_at_hand()
+    words, said, emulated = program_at_hand()
     with tempfile.TemporaryDirectory() as folder:
         compiled(folder, "reference")
-        print(f"the program ({said}), a sweep of {STEPS}, medians of {rounds} runs in turns with reference.c, the program's start included:")
+        runs = min(rounds, 3) if emulated else rounds
+        print(f"the program ({said}), a sweep of {STEPS}, medians of {runs} runs in turns with reference.c, the program's start included:")
         for number in (1, sweeps):
-            ours, theirs = program_times(folder, words, rounds, number)
+            ours, theirs = program_times(folder, words, runs, number)
             row = f"  {number} in one input: reference {1e6 * theirs / number:.1f} us a sweep"
             print(row + (f", ours {1e6 * ours / number:.1f} us, ratio {ours / theirs:.2f}" if ours else ""), flush=True)
         archive = os.path.join(TOP, "target", "host", "libcapi.a")

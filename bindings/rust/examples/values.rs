@@ -1,6 +1,6 @@
-//! K and I of one order, K of several with the counts of the steps taken, and calls that are refused: the words, and what to do.
+//! K and I of one order, K of several with the counts of the steps taken, calls that are refused: the words, and what to do; and the frames of a sweep.
 
-use lichenoar::{i, k, k_into, Complex, Refusal, Scaling};
+use lichenoar::{i, k, k_into, Complex, Kind, Refusal, Scaling, Sweep, SweepError};
 
 fn told(name: &str, value: Result<Complex, Refusal>) {
     match value {
@@ -9,7 +9,7 @@ fn told(name: &str, value: Result<Complex, Refusal>) {
     }
 }
 
-fn main() -> Result<(), Refusal> {
+fn main() -> Result<(), SweepError> {
     let z = Complex::new(1.5, -0.75);
     told("K(0.25) at 1.5-0.75i, scaled", k(0.25, z, Scaling::Scaled));
     told("I(0) at 2", i(0.0, Complex::from(2.0), Scaling::Unscaled));
@@ -22,5 +22,11 @@ fn main() -> Result<(), Refusal> {
         println!("K({}) at 1.5-0.75i, scaled = {value}", 0.25 + order as f64);
     }
     println!("zeros {}, longest sum {}, rungs {}, backward steps {}", answer.zeros, answer.longest_sum, answer.rungs, answer.backward);
+
+    let sweep = Sweep { kind: Kind::K, scaling: Scaling::Scaled, order: 0.25, entries: 2, first: z, last: Complex::new(2.5, 0.75), steps: 3 };
+    let mut lines = [0; 3 * Sweep::BYTES_A_STEP];
+    for frame in sweep.frames_into(&mut lines)? {
+        println!("{frame} asks at {}", frame.point().1);
+    }
     Ok(())
 }

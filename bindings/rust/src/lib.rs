@@ -4,7 +4,8 @@
 //! refused by one number ([`Refusal`]); the bits are the same on every processor. Nothing is allocated, and nothing is kept between calls.
 //!
 //! [`k`] and [`i`] give one value. [`k_into`] and [`i_into`] fill a slice with consecutive orders v, v+1, .., one an entry, and count their steps. Domain:
-//! orders from 0 to 1,000, slices of 1 to 512 entries, real parts from 0 to 32,768, imaginary parts from -32,768 to 32,768.
+//! orders from 0 to 1,000, slices of 1 to 512 entries, real parts from 0 to 32,768, imaginary parts from -32,768 to 32,768. A [`Sweep`] writes the frames that
+//! ask at evenly spaced points, for the frame program.
 //!
 //! ```
 //! use lichenoar::{k, k_into, Complex, Scaling};
@@ -24,6 +25,7 @@
 //! ```
 //!
 //! **On a refusal** every entry of the slice holds the fixed not-a-number (bits 7FF8000000000000) in both parts: no entry is left from before the call.
+//! A sweep that is refused writes nothing.
 #![no_std]
 #![warn(missing_docs)]
 
@@ -31,9 +33,11 @@ mod complex;
 pub mod elementary;
 mod raw;
 mod refusal;
+mod sweep;
 
 pub use complex::Complex;
 pub use refusal::Refusal;
+pub use sweep::{Frame, Frames, Kind, Sweep, SweepError};
 
 /// Whether the exponential growth or decay is taken out of the values.
 #[derive(Debug, Clone, Copy, PartialEq, Eq, Hash)]

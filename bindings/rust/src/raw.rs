@@ -1,5 +1,5 @@
-//! The functions of libcapi.a. A record of 20 bytes comes back through a pointer passed first, and a slice passes as its first cell and its length:
-//! this is x86-64's calling convention, and the archives for other processors follow it.
+//! The functions of libcapi.a. A record of 20 bytes comes back through a pointer passed first, one of 8 or 16 by value, and a slice passes as its first
+//! element and its length: this is x86-64's calling convention, and the archives for other processors follow it.
 
 #[repr(C)]
 #[derive(Default)]
@@ -17,12 +17,31 @@ pub(crate) struct LogGamma {
     pub number: u32,
 }
 
+#[repr(C)]
+pub(crate) struct Sweep {
+    pub number: u32,
+    pub needed: u32,
+}
+
 pub(crate) type Bessel = unsafe extern "C" fn(*mut Answer, u8, f64, f64, f64, *mut f64, usize) -> *mut Answer;
 
 extern "C" {
     pub(crate) fn lichenoar_k(answer: *mut Answer, scaled: u8, v: f64, re: f64, im: f64, out: *mut f64, length: usize) -> *mut Answer;
     pub(crate) fn lichenoar_i(answer: *mut Answer, scaled: u8, v: f64, re: f64, im: f64, out: *mut f64, length: usize) -> *mut Answer;
     pub(crate) fn lichenoar_log_gamma(x: f64) -> LogGamma;
+    pub(crate) fn lichenoar_sweep(
+        kind: u8,
+        scaling: u8,
+        n: u32,
+        v: f64,
+        first_re: f64,
+        first_im: f64,
+        last_re: f64,
+        last_im: f64,
+        steps: u32,
+        out: *mut u8,
+        length: usize,
+    ) -> Sweep;
     pub(crate) fn lichenoar_sqrt(x: f64) -> f64;
     pub(crate) fn lichenoar_hypot(x: f64, y: f64) -> f64;
     pub(crate) fn lichenoar_exp(x: f64) -> f64;
@@ -45,6 +64,8 @@ const _: () = {
     assert!(offset_of!(Answer, rungs) == 12 && offset_of!(Answer, backward) == 16);
     assert!(size_of::<LogGamma>() == 16 && align_of::<LogGamma>() == 8);
     assert!(offset_of!(LogGamma, value) == 0 && offset_of!(LogGamma, number) == 8);
+    assert!(size_of::<Sweep>() == 8 && align_of::<Sweep>() == 4);
+    assert!(offset_of!(Sweep, number) == 0 && offset_of!(Sweep, needed) == 4);
     assert!(size_of::<crate::Complex>() == 16 && align_of::<crate::Complex>() == align_of::<f64>());
     assert!(offset_of!(crate::Complex, re) == 0 && offset_of!(crate::Complex, im) == 8);
 };
@@ -135,5 +156,40 @@ mod tests {
         assert_eq!((answered.value.to_bits(), answered.number), (0x3FE2_50D0_48E7_A1B8, 0));
         let refused = unsafe { lichenoar_log_gamma(0.0) };
         assert_eq!((refused.value.to_bits(), refused.number), (FIXED, 10));
+    }
+
+    /// A sweep of two steps from 1 to 2 into bytes full of rubbish with a guard on each side: the number, what is needed, and how many bytes were changed.
+    fn swept(kind: u8, scaling: u8, n: u32, length: usize) -> (u32, u32, usize) {
+        let rubbish = |at: usize| 128 | at as u8;
+        let mut room: [u8; 200] = core::array::from_fn(rubbish);
+        let record = unsafe { lichenoar_sweep(kind, scaling, n, 0.0, 1.0, 0.0, 2.0, 0.0, 2, room.as_mut_ptr().add(40), length) };
+        let changed = |&at: &usize| room[at] != rubbish(at);
+        let written = (0..200).filter(changed).count();
+        // they are the first of those that were lent, and no other
+        assert_eq!((40..40 + written).filter(changed).count(), written);
+        (record.number, record.needed, written)
+    }
+
+    #[test]
+    fn a_sweep_of_any_kind_and_scaling() {
+        // no function of the crate gets 9: these bytes are types there
+        for byte in 0..=255 {
+            assert_eq!(swept(byte, 0, 1, 114), if byte == 1 || byte == 2 { (0, 114, 114) } else { (9, 0, 0) }, "kind {byte}");
+            assert_eq!(swept(1, byte, 1, 114), if byte < 2 { (0, 114, 114) } else { (9, 0, 0) }, "scaling {byte}");
+        }
+        // 13 is looked at before 9, and 9 before 1
+        let record = unsafe { lichenoar_sweep(0, 2, 0, 0.0, 1.0, 0.0, 2.0, 0.0, 0, core::ptr::null_mut(), 0) };
+        assert_eq!((record.number, record.needed), (13, 0));
+        assert_eq!(swept(0, 0, 0, 114), (9, 0, 0));
+        assert_eq!(swept(1, 0, 0, 114), (1, 0, 0));
+    }
+
+    #[test]
+    fn a_sweep_writes_all_of_its_bytes_or_none() {
+        for length in 0..=160 {
+            assert_eq!(swept(2, 1, 512, length), (0, 114, if length < 114 { 0 } else { 114 }), "length {length}");
+        }
+        let record = unsafe { lichenoar_sweep(1, 0, 1, 0.0, 1.0, 0.0, 2.0, 0.0, 4096, core::ptr::null_mut(), 0) };
+        assert_eq!((record.number, record.needed), (0, 233_472));
     }
 }

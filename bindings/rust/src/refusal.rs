@@ -2,7 +2,7 @@ use core::error::Error;
 use core::fmt;
 
 /// Why a call has no answer. Where several apply, the first in this order is given. K: 1, 2, 3, 11, 12, 4, 6, 7, 8. I: 1, 2, 3, 11, 12, 5, 8.
-/// Log-gamma: 2, 10, 8.
+/// Log-gamma: 2, 10, 8. A sweep: 13, 9, 1, 2, 3, 11, 12.
 ///
 /// [`words`](Refusal::words) says what was met and [`remedy`](Refusal::remedy) what to do about it, as docs/refusals.txt of the repository has them and the
 /// C header and the shift's scripts say them.
@@ -43,9 +43,9 @@ use core::fmt;
 #[derive(Debug, Clone, Copy, PartialEq, Eq, Hash)]
 #[non_exhaustive]
 pub enum Refusal {
-    /// 1: the slice holds no entry, or more than 512. Never of a single value.
+    /// 1: the slice holds no entry, or more than 512; or the frames of a sweep are to ask for none, or for more than 512. Never of a single value.
     Length,
-    /// 2: an argument is infinite or not a number.
+    /// 2: an argument is infinite or not a number; of a sweep, the order or a part of an end, but the last end has no part in a sweep of one step.
     NotFinite,
     /// 3: the order is not from 0 to 1,000, whatever the argument is.
     Order,
@@ -59,14 +59,17 @@ pub enum Refusal {
     Climb,
     /// 8: a finished value is not finite.
     Overflow,
-    /// 9: a line that is no frame. The frame program gives it, never a function of this crate.
+    /// 9: a line that is no frame, or no request of a sweep; a kind or a scaling that no frame has. The programs give it, and the sweep's function in C;
+    /// never a function of this crate, in which kinds and scalings are types.
     Malformed,
     /// 10: log-gamma of 0 or less.
     NotPositive,
-    /// 11: the order is inside its limits, and the real part is below 0. -0 is not.
+    /// 11: the order is inside its limits, and the real part, or that of an end of a sweep, is below 0. -0 is not.
     Sign,
-    /// 12: the order is inside its limits, the real part is not below 0, and a part is above 32,768 in magnitude.
+    /// 12: the order is inside its limits, no real part is below 0, and a part is above 32,768 in magnitude.
     Size,
+    /// 13: a sweep of no step, or of more than 4,096.
+    Steps,
     /// A number that this version of the crate does not know, from a newer archive.
     Other(u32),
 }
@@ -97,6 +100,7 @@ impl Refusal {
             10 => Refusal::NotPositive,
             11 => Refusal::Sign,
             12 => Refusal::Size,
+            13 => Refusal::Steps,
             other => Refusal::Other(other),
         })
     }
@@ -117,6 +121,7 @@ impl Refusal {
             Refusal::NotPositive => 10,
             Refusal::Sign => 11,
             Refusal::Size => 12,
+            Refusal::Steps => 13,
             Refusal::Other(number) => number,
         }
     }
@@ -125,7 +130,7 @@ impl Refusal {
     #[must_use]
     pub const fn words(self) -> &'static str {
         match self {
-            Refusal::Length => "the number of cells is odd, 0 or above 1,024",
+            Refusal::Length => "the number of orders is 0 or above 512, or the number of cells is odd",
             Refusal::NotFinite => "an argument is infinite or not a number",
             Refusal::Order => "the order is not from 0 to 1,000",
             Refusal::Zero => "K of 0 is infinite",
@@ -133,10 +138,11 @@ impl Refusal {
             Refusal::Start => "the search for the start of the backward steps found none",
             Refusal::Climb => "the climb out of underflow found no two neighbouring orders on scale",
             Refusal::Overflow => "a finished value is not finite",
-            Refusal::Malformed => "the line is no frame",
+            Refusal::Malformed => "no frame or request: a wrong length, digit, kind or scaling",
             Refusal::NotPositive => "log-gamma of 0 or less",
-            Refusal::Sign => "the real part is below 0",
+            Refusal::Sign => "a real part is below 0",
             Refusal::Size => "a part is above 32,768 in magnitude",
+            Refusal::Steps => "a sweep of no steps or of more than 4,096",
             Refusal::Other(_) => "not known here",
         }
     }
@@ -155,7 +161,7 @@ impl Refusal {
     #[must_use]
     pub const fn remedy(self) -> &'static str {
         match self {
-            Refusal::Length => "ask for 1 to 512 orders, and lend two cells for each",
+            Refusal::Length => "ask for 1 to 512 orders; where cells are lent, two for each",
             Refusal::NotFinite => "look at where the argument came from; no setting answers it",
             Refusal::Order => "ask for a first order from 0 to 1,000",
             Refusal::Zero => "ask at an argument other than 0",
@@ -163,10 +169,11 @@ impl Refusal {
             Refusal::Start => "no input is known that gets it; please report the frame",
             Refusal::Climb => "ask scaled",
             Refusal::Overflow => "ask plain if it was asked scaled; else for fewer or lower orders, or farther from 0; for log-gamma below 2.55e305",
-            Refusal::Malformed => "write 56 upper-case hexadecimal digits, kind 01 or 02, scaling 00 or 01; take carriage returns away",
+            Refusal::Malformed => "write 56 upper-case hexadecimal digits, 92 for a sweep, kind 01 or 02, scaling 00 or 01; take carriage returns away",
             Refusal::NotPositive => "ask above 0",
-            Refusal::Sign => "ask at a real part of 0 or more; -0 counts as 0",
+            Refusal::Sign => "ask at real parts of 0 or more; -0 counts as 0",
             Refusal::Size => "ask at parts from -32,768 to 32,768",
+            Refusal::Steps => "ask for 1 to 4,096 steps",
             Refusal::Other(_) => "look it up in the list of the archive's version",
         }
     }

@@ -116,12 +116,13 @@ fn every_function_of_the_archive_is_declared_and_explained() {
     const RAW: &str = include_str!("../src/raw.rs");
     let name = |line: &'static str| line.strip_prefix("pub extern \"C\" fn ").map(|rest| rest.split('(').next().unwrap());
     let exports: BTreeSet<&str> = EXPORTS.lines().filter_map(name).collect();
-    assert_eq!(exports.len(), 15);
+    assert_eq!(exports.len(), 16);
     let lines: Vec<&str> = HEADER.lines().collect();
     let mut declared = BTreeSet::new();
     for (at, line) in lines.iter().enumerate() {
         let Some(word) = line.split_whitespace().find_map(|w| w.trim_start_matches('*').split_once('(')) else { continue };
-        if line.ends_with(");") && line.starts_with(|c: char| c.is_ascii_lowercase()) {
+        // the arguments may go on behind the line
+        if line.ends_with([';', ',']) && line.starts_with(|c: char| c.is_ascii_lowercase()) {
             declared.insert(word.0);
             assert!(lines[at - 1].ends_with("*/"), "no comment above {}", word.0);
         }

@@ -1,2 +1,4 @@
 -- The definitions, by topic.
 pub mod Lines
+pub mod Cut
+pub mod Count

@@ -1,2 +1,4 @@
 // An input of lines that comes in parts, cut anywhere. Of a long line the first bytes are held, as many as the lent buffer has; whoever
 // reads lines lends one byte more than the longest that it takes. Nothing here knows what a line says.
+pub mod count;
+pub mod cut;

@@ -1,7 +1,7 @@
 //! The feature num-complex: numbers of num_complex go in and come back with every bit kept.
 
 use lichenoar::Scaling::{Scaled, Unscaled};
-use lichenoar::{i, i_into, k, k_into, Complex, Refusal};
+use lichenoar::{i, i_into, k, k_into, Complex, Kind, Refusal, Sweep, SweepError};
 
 type Num = num_complex::Complex<f64>;
 
@@ -29,6 +29,16 @@ fn values_at_their_numbers() -> Result<(), Refusal> {
     assert_eq!(value, Num::new(0.9065919966458136, 0.1977141925446418));
     let value: Num = i(0.0, Num::from(2.0).into(), Unscaled)?.into();
     assert_eq!(value, Num::from(2.279585302336067));
+    Ok(())
+}
+
+#[test]
+fn a_sweep_between_their_numbers() -> Result<(), SweepError> {
+    let (first, last) = (Num::new(1.5, -0.75), Num::new(2.5, 0.75));
+    let sweep = Sweep { kind: Kind::K, scaling: Scaled, order: 0.25, entries: 2, first: first.into(), last: last.into(), steps: 3 };
+    let mut out = [0; 3 * Sweep::BYTES_A_STEP];
+    let points: Vec<Num> = sweep.frames_into(&mut out)?.points().map(|(_, z)| z.into()).collect();
+    assert_eq!(points, [first, (first + last) / 2.0, last]);
     Ok(())
 }
 

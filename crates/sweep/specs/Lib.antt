@@ -1,0 +1,3 @@
+-- The definitions, by topic.
+pub mod Text
+pub mod Turn

@@ -326,7 +326,7 @@ def drawn_pictures(folder):
     drawn = random.Random(13)
     meanings = frame.refusals()
     gaps = 0
-    for turn in range(150):
+    for turn in range(60):
         count = drawn.choice((2, 3, 5, 21, 64, 101, 300))
         first, last = drawn.uniform(0, 40), drawn.uniform(41, 90)
         places = [first + at * (last - first) / (count - 1) for at in range(count)]
@@ -630,7 +630,7 @@ def by_program():
     drawn = random.Random(57)
     command = os.path.join(HERE, "sweep.py")
     sweeps = 0
-    for _ in range(60):
+    for _ in range(25):
         kind, scaled, count, steps = drawn.choice("KI"), drawn.random() < 0.5, drawn.randrange(1, 513), drawn.choice((1, 2, 3, 7, 64, 4096))
         order = drawn.choice((0.0, -0.0, drawn.uniform(0, 1000)))
         first_re, last_re = (drawn.choice((0.0, -0.0, 1e-310, 32768.0, drawn.uniform(0, 5))) for _ in range(2))

@@ -1,5 +1,5 @@
 #!/usr/bin/env bash
-# Installs into a temporary folder, moves what was installed, and uses it with neither rt, nor the kit, nor this repository at hand: the program on its recorded lines, the C
+# Installs into a temporary folder, moves what was installed, and uses it with neither rt, nor the kit, nor this repository at hand: the programs on their recorded lines, the C
 # example by pkg-config, a Rust crate over the binding and the binding's own examples by LICHENOAR_LIB_DIR, the manual page. Then what ./install refuses. The status of the
 # installed program, and one version in all places, are looked at where tools/run/test.py has REAL = 1.
 set -u
@@ -24,8 +24,10 @@ for time in first second; do
 644 lib/pkgconfig/lichenoar.pc
 644 share/man/man1/lichenoar.1
 755 bin/lichenoar
+755 bin/lichenoar-sweep
 755 lib/lichenoar/lichenoar
 755 lib/lichenoar/status.sh
+755 lib/lichenoar/sweep
 END
     for file in LICENSE NOTICE; do [ ! -f "$file" ] || echo "644 share/doc/lichenoar/$file" >> "$room/wanted"; done
     sort -o "$room/wanted" "$room/wanted"
@@ -56,6 +58,18 @@ if [ "$real" = 1 ]; then
         [ $? -eq 1 ] && [ "$(wc -l < "$room/said")" -eq 1 ] || fail "lost input or output is not told: $lost"
     done
 fi
+
+# the sweep program: its replay has refused requests, so its status is 1; what it writes is answered
+bare "$there/bin/lichenoar-sweep" < crates/sweep/stdin > "$room/frames" 2> "$room/said"
+[ $? -eq 1 ] || fail "refused requests make no status 1"
+cmp "$room/frames" crates/sweep/stdout || fail "the installed sweep program's frames"
+grep -q '^request [0-9]*: refusal 13$' "$room/said" || fail "no refusal is told by the installed sweep program"
+sed -n 2p crates/sweep/stdin | bare "$there/bin/lichenoar-sweep" > "$room/frames" 2> "$room/said" && [ ! -s "$room/said" ] || fail "a request that is accepted"
+bare "$there/bin/lichenoar" < "$room/frames" | wc -l | cmp - <(wc -l < "$room/frames") || fail "the frames of a sweep are not answered"
+[ "$(bare "$there/bin/lichenoar-sweep" --version)" = "lichenoar-sweep $version" ] || fail "lichenoar-sweep --version"
+bare "$there/bin/lichenoar-sweep" --help | grep -q 'man lichenoar' || fail "lichenoar-sweep --help"
+bare "$there/bin/lichenoar-sweep" --none > /dev/null 2>&1
+[ $? -eq 2 ] || fail "a word that the sweep program does not know"
 
 # C
 mkdir "$room/c" || exit 2

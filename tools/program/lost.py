@@ -1,24 +1,33 @@
 #!/usr/bin/env python3
-"""lost.py PROGRAM WORD..: runs the frame program where something is lost, and where nothing is, and holds to docs/DECISIONS.md what it writes,
-what it tells on standard error, and the status on descriptor 3. Prints the number of runs."""
+"""lost.py WORD.. PROGRAM: runs a program, the frame program or the sweep program by its file's name, where something is lost, and where nothing is, and holds to
+docs/SCOPE.md and docs/DECISIONS.md what it writes, what it tells on standard error, and the status on descriptor 3. Prints the number of runs."""
 import os
 import subprocess
 import sys
 import tempfile
 
 PROGRAM = [os.path.abspath(word) if os.path.exists(word) else word for word in sys.argv[1:]]
-if not PROGRAM:
-    sys.exit(__doc__)
-FRAME = b"01000001" + b"0" * 48
-ANSWER = b"040000000000000000\n"
+NAME = os.path.basename(PROGRAM[-1]) if PROGRAM else ""
 MANY = 20000
-UNWRITTEN = b"lichenoar: the answers could not be written; the output is not complete\n"
-UNREAD = b"lichenoar: the input could not be read to its end; the output is not complete\n"
+# a line, and what it gives on standard output; what is told of output that is lost; lines that are refused, with output, standard error and status
+if NAME == "lichenoar":
+    FRAME = b"01000001" + b"0" * 48
+    ANSWER = b"040000000000000000\n"
+    UNWRITTEN = b"lichenoar: the answers could not be written; the output is not complete\n"
+    REFUSED = ("refused frames are answers", b"no frame\n" + FRAME, b"090000000000000000\n" + ANSWER, b"", b"0\n")
+elif NAME == "sweep":
+    FRAME = b"01000001" + b"0" * 80 + b"0001"
+    ANSWER = b"01000001" + b"0" * 48 + b"\n"
+    UNWRITTEN = b"sweep: the frames and refusals could not be written; the output is not complete\n"
+    REFUSED = ("a refused request has a line on standard error", b"no request\n\n" + FRAME, ANSWER, b"request 1: refusal 9\nrequest 2: refusal 9\n", b"1\n")
+else:
+    sys.exit(__doc__)
+UNREAD = b"%s: the input could not be read to its end; the output is not complete\n" % NAME.encode()
 ALL = FRAME + b"\n"
-# what is tried, the shell's redirections, the input, the answers (None: not kept), the line on standard error, the status (None: no descriptor 3)
+# what is tried, the shell's redirections, the input, the answers (None: not kept), what is on standard error, the status (None: no descriptor 3)
 CASES = [
     ("nothing lost", "", ALL * MANY, ANSWER * MANY, b"", b"0\n"),
-    ("refused frames are answers", "", b"no frame\n" + FRAME, b"090000000000000000\n" + ANSWER, b"", b"0\n"),
+    (REFUSED[0], "", *REFUSED[1:]),
     ("no input", "", b"", b"", b"", b"0\n"),
     ("no descriptor 3", "3>&-", ALL, ANSWER, b"", None),
     ("a full device", "> /dev/full", ALL * MANY, None, UNWRITTEN, b"1\n"),
@@ -29,6 +38,12 @@ CASES = [
     ("a directory for input", "< /", b"", b"", UNREAD, b"1\n"),
     ("an input open for writing alone", "0> /dev/null", b"", b"", UNREAD, b"1\n"),
 ]
+if NAME == "sweep":
+    CASES += [
+        ("a closed output, and refusals alone", ">&-", b"no request\n" * 3, None, b"".join(b"request %d: refusal 9\n" % k for k in (1, 2, 3)), b"1\n"),
+        ("a refusal that cannot be told ends it", "2> /dev/full", ALL + b"no request\n" + ALL, ANSWER, b"", b"1\n"),
+        ("a closed standard error, nothing refused", "2>&-", ALL * 2, ANSWER * 2, b"", b"0\n"),
+    ]
 
 
 def run(folder, words, data):

@@ -2,21 +2,16 @@
 use mathlib.Core.Path.{_≡_, refl, sym, ap, _∙_}
 use mathlib.Core.Bool.{Bool, true, false, cond}
 use mathlib.Core.List.{List, [], _∷_, _++_, append-assoc, append-nil}
-use Prim.Native.Nat.{ℕ, zero, suc}
+use Prim.Native.Nat.{ℕ}
 use lib.Dec.{eqb}
 use lib.ListN.{take}
 use Rattle.answering.specs.Line.{answerLineOf}
 use Rattle.splitting.specs.Lines.{newline, lastOf, linesFrom, linesOf}
+use Rattle.splitting.proofs.CutFacts.{take-more}
 use Rattle.answering.specs.Lines.{answersOf, outputOf}
-use Rattle.answering.specs.Feed.{mostHeld, Feed, closedOf, stepIf, stepOf, fedOf, endedFrom, endedOf, owedOf, keptOf, handedFrom, joinedOf}
+use Rattle.answering.specs.Feed.{mostHeld, closedOf, stepIf, stepOf, fedOf, endedFrom, endedOf, owedOf, keptOf, handedFrom, joinedOf}
 use Rattle.answering.proofs.LineFacts.{kept}
 use Rattle.answering.proofs.FeedFacts.{feed, kept-append, owed-append}
-
--- the first n of the first n and more
-take-more : (n : ℕ) (l x : List ℕ) → take n (take n l ++ x) ≡ take n (l ++ x)
-take-more zero l x = refl
-take-more (suc n) [] x = refl
-take-more (suc n) (c ∷ l) x = ap (λ (k : List ℕ). c ∷ k) (take-more n l x)
 
 closed-kept : (line w : List ℕ) → closedOf (take mostHeld line) w ≡ w ++ (answerLineOf line ++ (newline ∷ []))
 unfolding closedOf

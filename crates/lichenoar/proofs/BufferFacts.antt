@@ -1,18 +1,18 @@
--- The two buffers: a line closed behind what is written, a byte kept, and the bytes taken so far. Assumes nothing.
+-- The two buffers: a line closed behind what is written, and the bytes taken so far. Assumes nothing.
 use mathlib.Core.Path.{_≡_, sym, ap, _∙_}
 use mathlib.Core.List.{List, [], _∷_, _++_, append-assoc}
-use Prim.Native.Nat.{ℕ, _+_, _-_, _≤_, _<_}
+use Prim.Native.Nat.{ℕ, _+_, _-_, _≤_}
 use native.Mathlib.Numerals.{add-one}
 use native.Mathlib.Omega.{arith}
 use borrow.Rule.Slice.PartMut.{midOf, putMid}
 use lib.ListN.{length, take, drop, set, length-append}
-use lib.Seq.{take-at, take-all, take-append-le, take-suc-set, take-add, length-take-le}
+use lib.Seq.{take-at, take-suc-set, take-add, length-take-le}
 use Rattle.laws.proofs.Part.{rest-length, put-rest}
 use Rattle.frame.specs.Layout.{longestLine}
 use Rattle.frame.specs.Over.{over}
 use Rattle.frame.proofs.OverFacts.{over-length}
 use Rattle.splitting.specs.Lines.{newline}
-use Rattle.answering.specs.Feed.{mostHeld, withLine}
+use Rattle.answering.specs.Feed.{withLine}
 use Rattle.lichenoar.specs.Feed.{mostRoom}
 
 -- ---- a line written behind what is written, and its newline
@@ -59,22 +59,6 @@ module _ (d l ys : List ℕ) (f n : ℕ) (room : f + mostRoom ≤ length d) (mos
 pub lent-room : (d : List ℕ) (f : ℕ) → f + mostRoom ≤ length d → longestLine ≤ length (midOf f (length d - f) d)
 lent-room d f h = omega (arith, rest-length f d)
 
--- ---- a byte kept
-pub keeps : (line : List ℕ) (held b : ℕ) → held < mostHeld → length line ≡ mostHeld → take (held + 1) (set line held b) ≡ take mostHeld (take held line ++ (b ∷ []))
-keeps line held b h e =
-    let x : take (held + 1) (set line held b) ≡ take held line ++ (b ∷ []) = ap (λ (k : ℕ). take k (set line held b)) (add-one held) ∙ take-suc-set line held b (omega arith) in
-    let n : length (take held line ++ (b ∷ [])) ≡ held + 1 = length-append (take held line) (b ∷ []) ∙ ap (λ (k : ℕ). k + 1) (length-take-le held line (omega arith)) in
-    x ∙ sym (take-all mostHeld (take held line ++ (b ∷ [])) (omega arith))
-
-pub drops : (line : List ℕ) (held b : ℕ) → mostHeld ≤ held → held ≤ mostHeld → length line ≡ mostHeld → take held line ≡ take mostHeld (take held line ++ (b ∷ []))
-drops line held b g h e =
-    let n : length (take held line) ≡ held = length-take-le held line (omega arith) in
-    let m : held ≡ mostHeld = omega arith in
-    sym (take-append-le mostHeld (take held line) (b ∷ []) (omega arith) ∙ take-all mostHeld (take held line) (omega arith))
-
 -- ---- the bytes taken so far
-pub taken-none : (l : List ℕ) (from : ℕ) → take (from - from) (drop from l) ≡ []
-taken-none l from = let e : from - from ≡ 0 = omega arith in ap (λ (m : ℕ). take m (drop from l)) e
-
 pub taken-both : (l : List ℕ) (at next : ℕ) → at ≤ next → take at l ++ take (next - at) (drop at l) ≡ take next l
 taken-both l at next h = let e : at + (next - at) ≡ next = omega arith in sym (take-add at (next - at) l) ∙ ap (λ (m : ℕ). take m l) e

@@ -8,7 +8,7 @@ use borrow.Author.Tests.{le-leb, lt-leb, eq-eqb, ne-eqb, leb-true, eqb-true}
 use lib.Dec.{T, eqb, leb}
 use lib.Ieee.Fits.{and-l, and-r}
 use lib.ListN.{length, take, drop, getD, length-append, length-drop}
-use lib.Seq.{take-all, take-suc, take-add, getD-drop, length-take-le, drop-drop}
+use lib.Seq.{take-all, take-suc, getD-drop, length-take-le}
 use Rattle.frame.specs.declared.asking.Fields.{Fields}
 use Rattle.frame.specs.declared.asking.Framed.the-variants.{Frame, NoFrame}
 use Rattle.frame.specs.Digits.{isDigit, areDigits}
@@ -76,16 +76,6 @@ module _ (chunk : List ℕ) (at : ℕ) (a : Ahead chunk at) where
       ∙ fed-snoc (feed [] w) D newline
       ∙ ap (λ (s : Feed). stepOf s newline) (digits-held D [] w (a .digits) (omega (arith, frame-length)))
       ∙ step-newline (feed D w) newline refl
-
--- ---- the bytes taken so far, and some more
-pub taken-more : (l : List ℕ) (from at next : ℕ) → from ≤ at → at ≤ next → take (at - from) (drop from l) ++ take (next - at) (drop at l) ≡ take (next - from) (drop from l)
-taken-more l from at next h k =
-    let j = at - from in
-    let same : from + j ≡ at = omega arith in
-    let all : j + (next - at) ≡ next - from = omega arith in
-    ap (λ (r : List ℕ). take j (drop from l) ++ take (next - at) r) (sym (drop-drop j from l ∙ ap (λ (m : ℕ). drop m l) same))
-    ∙ sym (take-add j (next - at) (drop from l))
-    ∙ ap (λ (m : ℕ). take m (drop from l)) all
 
 -- ---- the tests in their order
 pub not-long : (chunk : List ℕ) (at : ℕ) → length chunk - at < 57 → frameAhead chunk at ≡ NoFrame

@@ -50,7 +50,7 @@ ended-append most h (c ∷ a) b =
 
 -- ---- the whole input
 -- the first n of the first n and more
-take-more : (n : ℕ) (l x : List ℕ) → take n (take n l ++ x) ≡ take n (l ++ x)
+pub take-more : (n : ℕ) (l x : List ℕ) → take n (take n l ++ x) ≡ take n (l ++ x)
 take-more zero l x = refl
 take-more (suc n) [] x = refl
 take-more (suc n) (c ∷ l) x = ap (λ (k : List ℕ). c ∷ k) (take-more n l x)

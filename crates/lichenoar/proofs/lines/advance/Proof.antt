@@ -9,8 +9,7 @@ use lib.ListN.{length, take, drop}
 use Rattle.lichenoar.specs.Feed.{mostRoom, feedOf, Within}
 use Rattle.answering.specs.Feed.{Feed, fedOf}
 use Rattle.answering.proofs.FeedFacts.{fed-append}
-use Rattle.lichenoar.proofs.BufferFacts.{taken-none}
-use Rattle.lichenoar.proofs.FrameFacts.{taken-more}
+use Rattle.splitting.proofs.KeepFacts.{part-none, part-more}
 use Rattle.lichenoar.proofs.lines.advance.Statement.{statement}
 use Rattle.lichenoar.proofs.lines.advance.Tie as tie
 
@@ -43,7 +42,7 @@ loop-holds c =
       within = record { long = s .pre .1; few = s .pre .2; room = omega arith };
       same = refl;
       start = λ e. refl;
-      is = sym (ap (fedOf (feedOf (a .line .now) (a .held) (a .out .now) 0)) (taken-none (a .chunk .now) (a .from)));
+      is = sym (ap (fedOf (feedOf (a .line .now) (a .held) (a .out .now) 0)) (part-none (a .chunk .now) (a .from)));
     }
 
 sub-if1 : tie.Need-sub-if1 Inv-loop μ-loop
@@ -92,7 +91,7 @@ loop-again c =
           t .take-some .ensures .3
           ∙ ap (λ (x : Feed). fedOf x (take (r .at - l .loop .at) (drop (l .loop .at) (a .chunk .now)))) (v .is)
           ∙ fed-append z (take (l .loop .at - a .from) (drop (a .from) (a .chunk .now))) (take (r .at - l .loop .at) (drop (l .loop .at) (a .chunk .now)))
-          ∙ ap (fedOf z) (taken-more (a .chunk .now) (a .from) (l .loop .at) (r .at) (v .low) (omega (arith, t .take-some .ensures .0)));
+          ∙ ap (fedOf z) (part-more (a .chunk .now) (a .from) (l .loop .at) (r .at) (v .low) (omega (arith, t .take-some .ensures .0)));
     }
 
 same-length-3 : tie.Need-same-length-3 Inv-loop μ-loop

@@ -1,5 +1,5 @@
 -- The claims of the sweep: its numbers, its points, the bytes, what is read back from them, the request line, and what C is handed. Assumes nothing.
-use mathlib.Core.Path.{_≡_, refl, ap}
+use mathlib.Core.Path.{_≡_, refl, sym, ap, _∙_, subst}
 use mathlib.Core.Bool.{false, not, _&&_, _||_}
 use mathlib.Core.List.{List, [], _∷_, _++_}
 use Prim.Native.Nat.{ℕ, _*_, _-_, _≤_, _<_}
@@ -27,7 +27,7 @@ use Rattle.sweeping.specs.Line.{requestedOf, sweptBy, framesIn, lineSwept, line
 use Rattle.sweeping.specs.ReadBack.{linesUpTo, AreValues, oneOf, Taken, aloneWith}
 use Rattle.sweeping.proofs.PointFacts.{first-alone, even-points}
 use Rattle.sweeping.proofs.NumberFacts.{NumberOfSweep, number-of-sweep, listed, frame-has}
-use Rattle.sweeping.proofs.SweepFacts.{accepted, accepted-needed, accepted-frames, sweep-needed, refused-none}
+use Rattle.sweeping.proofs.SweepFacts.{accepted, accepted-needed, accepted-frames, sweep-needed, refused-none, offered-nothing}
 use Rattle.sweeping.proofs.ReadBack.{ReadBack, read-back}
 use Rattle.sweeping.proofs.OneFacts.{one-number, one-line, alone-swept, alone-frames}
 use Rattle.capi.specs.Outcome.{sweepOf}
@@ -47,6 +47,7 @@ pub record OfSweep : Type 0 where
   pub number : (q : Request) → NumberOfSweep (normalisedRequest q) (sweptOf q .number)
   pub listed : (r : Request) → numbersOf (sweepChecks r) ≡ 13 ∷ 9 ∷ 1 ∷ 2 ∷ 3 ∷ 11 ∷ 12 ∷ []
   pub no-other : (q : Request) → T (isOneOf (sweptOf q .number) (0 ∷ 13 ∷ 9 ∷ 1 ∷ 2 ∷ 3 ∷ 11 ∷ 12 ∷ []))
+  pub c-number : (q : Request) → NumberOfSweep (normalisedRequest q) (sweepOf (sweptOf q) .number)
   -- the conditions: steps, kind and scaling, count; and of the ends in use, of a sweep of one the first alone, that they are finite, their sign and their size
   pub steps : (s : ℕ) → stepsInside s ≡ (ltb 0 s && leb s 4096)
   pub kinds : (r : Request) → frameHas r ≡ (not (ltb 1 (r .scaling)) && (eqb (r .kind) 1 || eqb (r .kind) 2))
@@ -64,6 +65,7 @@ pub record OfSweep : Type 0 where
   pub needed : (q : Request) → sweptOf q .number ≡ 0 → sweptOf q .needed ≡ q .steps * lineLength
   pub needed-is : (q : Request) → sweptOf q .needed ≡ length (framesOf q)
   pub refused : (q : Request) → 0 < sweptOf q .number → framesOf q ≡ []
+  pub refused-stays : (d : List ℕ) (q : Request) → 0 < sweptOf q .number → offered (framesOf q) d ≡ d
   pub room : (d : List ℕ) (q : Request) → length (framesOf q) ≤ length d → offered (framesOf q) d ≡ over 0 (framesOf q) d
   pub no-room : (d : List ℕ) (q : Request) → length d < length (framesOf q) → offered (framesOf q) d ≡ d
   -- read back: one line a point, in order, its fields, and what it asks for; so that the frame program answers one line a point
@@ -77,6 +79,7 @@ pub record OfSweep : Type 0 where
   pub alone-frames : (r : Request) (x y x' y' : Float) → framesOf (aloneWith r x y) ≡ framesOf (aloneWith r x' y')
   -- a request line: that of its request, or 9 and no frame
   pub line : (line : List ℕ) (r : Request) → requestedOf line ≡ Sought r → (lineSwept line ≡ sweptOf r) × (lineBytes line ≡ framesOf r)
+  pub line-number : (line : List ℕ) (r : Request) → requestedOf line ≡ Sought r → NumberOfSweep (normalisedRequest r) (lineSwept line .number)
   pub malformed : (line : List ℕ) → requestedOf line ≡ NoRequest → (lineSwept line .number ≡ 9) × (lineBytes line ≡ [])
   pub line-no-other : (line : List ℕ) → T (isOneOf (lineSwept line .number) (0 ∷ 13 ∷ 9 ∷ 1 ∷ 2 ∷ 3 ∷ 11 ∷ 12 ∷ []))
 
@@ -88,6 +91,7 @@ of-sweep = record {
   number = number-of-sweep;
   listed = listed;
   no-other = λ q. number-of-sweep q .no-other;
+  c-number = number-of-sweep;
   steps = λ s. refl;
   kinds = frame-has;
   counts = λ n. refl;
@@ -100,6 +104,7 @@ of-sweep = record {
   needed = accepted-needed;
   needed-is = sweep-needed;
   refused = refused-none;
+  refused-stays = λ d q h. ap (λ (l : List ℕ). offered l d) (refused-none q h) ∙ sym (offered-nothing d);
   room = λ d q h. offered-room (framesOf q) d h;
   no-room = λ d q h. offered-none (framesOf q) d h;
   read-back = λ q h e. read-back q h (accepted q e);
@@ -109,6 +114,7 @@ of-sweep = record {
   alone = alone-swept;
   alone-frames = alone-frames;
   line = λ line r e. (ap sweptBy e, ap framesIn e);
+  line-number = λ line r e. subst (NumberOfSweep (normalisedRequest r)) (sym (ap (λ (q : Requested). sweptBy q .number) e)) (number-of-sweep r);
   malformed = λ line e. (ap (λ (q : Requested). sweptBy q .number) e, ap framesIn e);
   line-no-other = λ line. no-other-line (requestedOf line);
 }

@@ -1,9 +1,8 @@
 """What ./ask does: writes an asking frame from words, runs ./run on it, and shows the answer."""
 import os
-import re
 import subprocess
 
-from frame import KINDS, SPECIAL, Wrong, answer, decimal, ended, framed, lost, number, put, say, value_of, visible
+from frame import Wrong, answer, decimal, ended, framed, kind_of, lost, number, put, say, told, value_of, visible, whole
 from show import known, shown, unfinished
 
 RUN = os.path.join(os.path.dirname(os.path.abspath(__file__)), "..", "..", "run")
@@ -24,30 +23,12 @@ UNFINISHED = 3
 OPTIONS = ("--scaled", "--frame", "--help", "-h")
 
 
-def counted(field, word):
-    if not re.fullmatch(r"[+-]?[0-9]+", word):
-        raise Wrong(f"{field}: {visible(word)} is no whole number; write 1 to 512")
-    if len(word) > 9 or not 0 <= int(word) <= 65535:
-        raise Wrong(f"{field}: {visible(word)} does not fit into a frame; write 1 to 512")
-    return int(word)
-
-
 def asked(words):
     """The fields of what is asked: kind, scaled, count, and the bits of order, re and im; and whether the frame alone is wanted."""
-    options = [word for word in words if word in OPTIONS]
-    words = [word for word in words if word not in OPTIONS]
-    for word in words:
-        if re.match(r"--|-[A-Za-z]", word) and not SPECIAL.fullmatch(word):
-            raise Wrong(f"{visible(word)} is no word of ask; see --help")
-    if len(words) < 4:
-        raise Wrong(f"{', '.join(FIELDS[len(words):4])}: missing; see --help")
-    if len(words) > 5:
-        raise Wrong(f"{visible(words[5])}: one word too many; see --help")
-    kind = words[0]
-    if kind not in KINDS:
-        raise Wrong(f"{FIELDS[0]}: {visible(kind)} is none; write K or I")
+    words, options = told(words, "ask", OPTIONS, FIELDS, 4)
+    kind = kind_of(FIELDS[0], words[0])
     order = number(FIELDS[1], words[1])
-    count = counted(FIELDS[2], words[2])
+    count = whole(FIELDS[2], words[2], 512, "a frame")
     parts = [number(field, word) for field, word in zip(FIELDS[3:], words[3:])]
     return (kind, "--scaled" in options, count, order, *parts, *([0] if len(parts) == 1 else [])), "--frame" in options
 

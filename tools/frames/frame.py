@@ -82,6 +82,35 @@ def advice(word):
     return "write it as 0.25, -1.5e-3 or bits:3FD0000000000000"
 
 
+def told(words, tool, options, fields, least):
+    """The words of a command without its options, and the options among them; as many words as there are fields, or some of the last left out."""
+    given = [word for word in words if word in options]
+    words = [word for word in words if word not in options]
+    for word in words:
+        if re.match(r"--|-[A-Za-z]", word) and not SPECIAL.fullmatch(word):
+            raise Wrong(f"{visible(word)} is no word of {tool}; see --help")
+    if len(words) < least:
+        raise Wrong(f"{', '.join(fields[len(words):least])}: missing; see --help")
+    if len(words) > len(fields):
+        raise Wrong(f"{visible(words[len(fields)])}: one word too many; see --help")
+    return words, given
+
+
+def kind_of(field, word):
+    if word not in KINDS:
+        raise Wrong(f"{field}: {visible(word)} is none; write K or I")
+    return word
+
+
+def whole(field, word, most, line):
+    """A count, as the two bytes of its field in such a line hold it: what they hold and is refused is left to the program."""
+    if not re.fullmatch(r"[+-]?[0-9]+", word):
+        raise Wrong(f"{field}: {visible(word)} is no whole number; write 1 to {most}")
+    if len(word) > 9 or not 0 <= int(word) <= 65535:
+        raise Wrong(f"{field}: {visible(word)} does not fit into {line}; write 1 to {most}")
+    return int(word)
+
+
 def framed(kind, scaled, count, order, re_part, im_part):
     """The asking frame, 56 digits, of a count and of the bits of three numbers."""
     return struct.pack(">BBHQQQ", KINDS[kind], 1 if scaled else 0, count, order, re_part, im_part).hex().upper()

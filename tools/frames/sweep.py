@@ -9,7 +9,7 @@ import subprocess
 import tempfile
 
 from ask import RUN
-from frame import KINDS, SPECIAL, Wrong, ended, lost, number, put, refused, say, visible
+from frame import KINDS, Wrong, ended, kind_of, lost, number, put, refused, say, told, visible, whole
 from show import counted, known
 
 USAGE = """usage: tools/frames/sweep.py K|I ORDER N RE IM TO_RE TO_IM STEPS [--scaled] [--frames]
@@ -34,33 +34,14 @@ REQUEST = ">BBHQQQQQH"
 REFUSED = re.compile(rb"request 1: refusal ([0-9]{1,3})")
 
 
-def whole(field, word, most):
-    """A count, as the two bytes of its field hold it: what they hold and a sweep refuses is left to the program."""
-    if not re.fullmatch(r"[+-]?[0-9]+", word):
-        raise Wrong(f"{field}: {visible(word)} is no whole number; write 1 to {most}")
-    if len(word) > 9 or not 0 <= int(word) <= 65535:
-        raise Wrong(f"{field}: {visible(word)} does not fit into a request; write 1 to {most}")
-    return int(word)
-
-
 def asked(words):
     """Kind, scaled, count, the bits of the order and of the four parts, and the steps; and whether the frames are wanted."""
-    options = [word for word in words if word in OPTIONS]
-    words = [word for word in words if word not in OPTIONS]
-    for word in words:
-        if re.match(r"--|-[A-Za-z]", word) and not SPECIAL.fullmatch(word):
-            raise Wrong(f"{visible(word)} is no word of sweep; see --help")
-    if len(words) < len(FIELDS):
-        raise Wrong(f"{', '.join(FIELDS[len(words):])}: missing; see --help")
-    if len(words) > len(FIELDS):
-        raise Wrong(f"{visible(words[len(FIELDS)])}: one word too many; see --help")
-    kind = words[0]
-    if kind not in KINDS:
-        raise Wrong(f"{FIELDS[0]}: {visible(kind)} is none; write K or I")
+    words, options = told(words, "sweep", OPTIONS, FIELDS, len(FIELDS))
+    kind = kind_of(FIELDS[0], words[0])
     order = number(FIELDS[1], words[1])
-    count = whole(FIELDS[2], words[2], 512)
+    count = whole(FIELDS[2], words[2], 512, "a request")
     parts = [number(field, word) for field, word in zip(FIELDS[3:7], words[3:7])]
-    steps = whole(FIELDS[7], words[7], 4096)
+    steps = whole(FIELDS[7], words[7], 4096, "a request")
     return (kind, "--scaled" in options, count, order, *parts, steps), "--frames" in options
 
 

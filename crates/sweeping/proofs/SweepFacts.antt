@@ -1,11 +1,12 @@
 -- A sweep by its verdict: admitted, it has as many frames as steps, from 1 to 4,096; refused, none. Assumes nothing.
 use mathlib.Core.Path.{_≡_, refl, sym, ap, _∙_, subst}
-use mathlib.Core.Bool.{Bool, true, false, not, Bool·not-not}
+use mathlib.Core.Bool.{true, not, Bool·not-not}
 use mathlib.Core.List.{List, []}
 use Prim.Native.Nat.{ℕ, _*_, _≤_, _<_}
 use native.Mathlib.Omega.{arith}
 use borrow.Author.Tests.{ltb-true, leb-true}
-use lib.Dec.{T, ltb, leb}
+use lib.Dec.{ltb, leb}
+use lib.Ieee.Bits.{is-true}
 use lib.ListN.{length}
 use Rattle.refusal.specs.Number.{numberOf}
 use Rattle.refusal.specs.declared.refusal.Refusal.{Refusal}
@@ -101,13 +102,9 @@ module _ (q : Request) where
   refused-none h = none-if (verdictFor q) refl h
 
 -- ---- by the number: 0 is an accepted sweep
-true-of : (b : Bool) → T b → b ≡ true
-true-of true t = refl
-true-of false t = absurd t
-
 pub accepted : (q : Request) → sweptOf q .number ≡ 0 → verdictFor q ≡ Admitted
 unfolding sweptOf verdictFor
-accepted q e = let cs = sweepChecks (normalisedRequest q) in none-admitted cs (true-of (noneApplies cs) (given cs .none .0 e))
+accepted q e = let cs = sweepChecks (normalisedRequest q) in none-admitted cs (is-true (noneApplies cs) (given cs .none .0 e))
 
 pub accepted-needed : (q : Request) → sweptOf q .number ≡ 0 → sweptOf q .needed ≡ q .steps * lineLength
 accepted-needed q e = ap (λ (s : Swept). s .needed) (admitted-swept q (accepted q e))

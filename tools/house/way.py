@@ -8,7 +8,7 @@ way.py --check PAGE        fails where a block of PAGE is not what --write would
 A way begins at the frame program. What a frame may meet is every call that stands in a body, but for the arms of a match that belong to the
 other kind, and for the other kind's entry point. A function is counted once and opened where it is met first. It is as deep as the longest
 chain of calls that leads to it, or, in a run, as the deepest one seen; the first function is 1 deep. The line begins with what the
-program calls outside its own crate.
+program calls outside its own crate and crate splitting.
 
 A block of a page stands between fences behind a mark. <!-- way K FUNCTION.. --> holds what the run of the K frame meets from these functions
 on, each named by the end of its path, enough to tell it; what has a block of its own, or stands above, is named and not opened.
@@ -22,6 +22,7 @@ from run import calls_of
 from sources import TOP
 
 PROGRAM = "lichenoar::main"
+SPLITTER = "splitting"
 ENTRY = {"K": "bessel::k::k", "I": "bessel::i::i"}
 FRAME = {"K": "0100000200000000000000003FF00000000000000000000000000000", "I": "0200000200000000000000003FF00000000000000000000000000000"}
 
@@ -49,12 +50,12 @@ class Way:
                     self.depth[g] = max(self.depth.get(g, 0), self.depth[f] + 1)
 
     def totals(self):
-        """From the first function on, and from the line on: from what the program calls outside its own crate."""
-        own = self.start.module.crate
+        """From the first function on, and from the line on: from what the program calls outside its own crate and the one that splits lines."""
+        own = (self.start.module.crate, SPLITTER)
         below = []
         for f in self.functions:
-            if f.module.crate == own:
-                below += [g for g in self.calls(f) if g.module.crate != own and g not in below]
+            if f.module.crate in own:
+                below += [g for g in self.calls(f) if g.module.crate not in own and g not in below]
         first = min(self.depth[f] for f in below)
         for f in below:
             below += [g for g in self.calls(f) if g not in below]

@@ -30,6 +30,7 @@ use Rattle.sweeping.proofs.NumberFacts.{NumberOfSweep, number-of-sweep, listed,
 use Rattle.sweeping.proofs.SweepFacts.{accepted, accepted-needed, accepted-frames, sweep-needed, refused-none, offered-nothing}
 use Rattle.sweeping.proofs.ReadBack.{ReadBack, read-back}
 use Rattle.sweeping.proofs.OneFacts.{one-number, one-line, alone-swept, alone-frames}
+use Rattle.sweeping.proofs.Examples.{exampleRequest, exampleFrames, example-frames}
 use Rattle.capi.specs.Outcome.{sweepOf}
 use Rattle.claims.proofs.Determined.{Determined, Gives, one-outcome}
 
@@ -81,6 +82,8 @@ pub record OfSweep : Type 0 where
   pub line : (line : List ℕ) (r : Request) → requestedOf line ≡ Sought r → (lineSwept line ≡ sweptOf r) × (lineBytes line ≡ framesOf r)
   pub line-number : (line : List ℕ) (r : Request) → requestedOf line ≡ Sought r → NumberOfSweep (normalisedRequest r) (lineSwept line .number)
   pub malformed : (line : List ℕ) → requestedOf line ≡ NoRequest → (lineSwept line .number ≡ 9) × (lineBytes line ≡ [])
+  -- docs/SCOPE.md's example, of which every field has a value of its own: none stands in another's place
+  pub example : lineBytes exampleRequest ≡ exampleFrames
   pub line-no-other : (line : List ℕ) → T (isOneOf (lineSwept line .number) (0 ∷ 13 ∷ 9 ∷ 1 ∷ 2 ∷ 3 ∷ 11 ∷ 12 ∷ []))
 
 pub of-sweep : OfSweep
@@ -116,5 +119,6 @@ of-sweep = record {
   line = λ line r e. (ap sweptBy e, ap framesIn e);
   line-number = λ line r e. subst (NumberOfSweep (normalisedRequest r)) (sym (ap (λ (q : Requested). sweptBy q .number) e)) (number-of-sweep r);
   malformed = λ line e. (ap (λ (q : Requested). sweptBy q .number) e, ap framesIn e);
+  example = example-frames;
   line-no-other = λ line. no-other-line (requestedOf line);
 }

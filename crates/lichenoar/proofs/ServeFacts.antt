@@ -1,5 +1,5 @@
 -- One read after the others: what was read so far, and one read more; what the whole run comes to. Assumes nothing.
-use mathlib.Core.Path.{_≡_, refl, sym, ap, _∙_, subst}
+use mathlib.Core.Path.{_≡_, sym, ap, _∙_, subst}
 use mathlib.Core.Bool.{true, false}
 use mathlib.Core.Logic.{inl, inr}
 use mathlib.Core.List.{List, [], _∷_, _++_}
@@ -12,12 +12,11 @@ use lib.ListN.{length, take, length-append}
 use lib.Seq.{length-take-le}
 use lib.Signed.{ltZ}
 use Rattle.io.specs.Counts.{clamped}
-use Rattle.lichenoar.specs.declared.turn.State.{State}
-use Rattle.lichenoar.specs.declared.turn.State.the-variants.{Going, Whole, Unwritten, Unread}
+use Rattle.splitting.specs.declared.state.State.the-variants.{Going, Unwritten}
 use Rattle.lichenoar.specs.declared.turn.Turn.{Turn}
 use Rattle.answering.specs.Lines.{outputOf}
 use Rattle.answering.specs.Feed.{mostHeld, endedFrom, owedOf, keptOf}
-use Rattle.lichenoar.specs.Turn.{tallied, Adds, Passed, AfterBytes, Ended, AtEnd, Failed, TakenSome, Taken, OneRead, Served, isOver}
+use Rattle.lichenoar.specs.Turn.{tallied, Adds, Passed, AfterBytes, Ended, AtEnd, Failed, TakenSome, Taken, OneRead, Served}
 use Rattle.answering.proofs.FeedFacts.{kept-append, owed-append}
 use Rattle.lichenoar.proofs.TurnFacts.{adds-again}
 use Rattle.answering.proofs.WholeInput.{output-parts}
@@ -155,13 +154,3 @@ module _ (line : List ℕ) (held sent : ℕ) (before : Reached line held sent) (
 
   pub is-over : OneRead (take held line) sent line' r → (r .state ≡ Going → ⊥) → Served r
   is-over o g = over-taken (o .got) (o .buffer) (o .taken) g
-
--- ---- is it over?
-pub not-over : (s : State) → isOver s ≡ false → s ≡ Going
-not-over Going e = refl
-not-over Whole e = absurd (subst T e tt)
-not-over Unwritten e = absurd (subst T e tt)
-not-over Unread e = absurd (subst T e tt)
-
-pub over-not-going : (s : State) → isOver s ≡ true → s ≡ Going → ⊥
-over-not-going s e f = subst T (sym e ∙ ap isOver f) tt

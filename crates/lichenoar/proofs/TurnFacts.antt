@@ -7,9 +7,10 @@ use native.Mathlib.Omega.{arith}
 use lib.ListN.{length, take, length-append}
 use lib.Seq.{length-take-le}
 use Rattle.splitting.specs.Lines.{newline}
+use Rattle.splitting.specs.Cut.{partOf}
 use Rattle.answering.specs.Feed.{Feed, stepIf, stepOf, fedOf, endedFrom, owedOf, keptOf}
 use Rattle.lichenoar.specs.Feed.{feedOf}
-use Rattle.lichenoar.specs.Turn.{tallied, Adds, partOf}
+use Rattle.lichenoar.specs.Turn.{tallied, Adds}
 use Rattle.answering.proofs.FeedFacts.{kept-append, owed-append}
 use Rattle.lichenoar.proofs.BufferFacts.{taken-both}
 

@@ -1,13 +1,12 @@
 -- What one read comes to, and the whole run: what is held, how many bytes of answers the writer took, and how it ended. Definitions only.
 use mathlib.Core.Path.{_≡_}
-use mathlib.Core.Bool.{Bool, true, false}
 use mathlib.Core.Logic.{_⊎_}
 use mathlib.Core.List.{List, [], _∷_}
-use Prim.Native.Nat.{ℕ, _+_, _-_, _%_, _≤_, min}
+use Prim.Native.Nat.{ℕ, _+_, _%_, _≤_, min}
 use lib.IntN.{ℤ, pos, negsuc}
-use lib.ListN.{length, take, drop}
-use Rattle.lichenoar.specs.declared.turn.State.{State}
-use Rattle.lichenoar.specs.declared.turn.State.the-variants.{Going, Whole, Unwritten, Unread}
+use lib.ListN.{length, take}
+use Rattle.splitting.specs.declared.state.State.{State}
+use Rattle.splitting.specs.declared.state.State.the-variants.{Going, Whole, Unwritten, Unread}
 use Rattle.lichenoar.specs.declared.turn.Turn.{Turn}
 use Rattle.answering.specs.Lines.{outputOf}
 use Rattle.answering.specs.Feed.{mostHeld, endedFrom, owedOf, keptOf}
@@ -18,10 +17,6 @@ tallied n = n % 9223372036854775808
 
 abbrev pub Adds : ℕ → ℕ → ℕ → Type 0
 Adds sent n total = tallied total ≡ tallied (sent + n)
-
--- ---- the bytes of a chunk from one place to another
-abbrev pub partOf : List ℕ → ℕ → ℕ → List ℕ
-partOf chunk from at = take (at - from) (drop from chunk)
 
 -- ---- after some bytes: it goes on, holds what they leave and has handed on their answers, or a write failed
 pub record Passed (held bytes : List ℕ) (sent : ℕ) (line : List ℕ) (r : Turn) : Type 0 where
@@ -68,14 +63,7 @@ pub record Served (r : Turn) : Type 0 where
   pub unread : r .state ≡ Unread → Adds 0 (length (owedOf [] input)) (r .sent)
   pub over : r .state ≡ Going → ⊥
 
--- ---- told at the end
-abbrev pub isOver : State → Bool
-isOver Going = false
-isOver Whole = true
-isOver Unwritten = true
-isOver Unread = true
-
--- 0 where everything was read and written, and else 1, as a digit
+-- ---- told at the end: 0 where everything was read and written, and else 1, as a digit
 abbrev pub statusOf : State → ℕ
 statusOf Whole = 48
 statusOf Going = 49

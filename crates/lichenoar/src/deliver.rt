@@ -3,14 +3,15 @@
 ghost use mathlib.Core.Path.{_≡_};
 ghost use Prim.Native.Nat.{_≤_, _<_};
 ghost use lib.ListN.{length, take};
+ghost use Rattle.splitting.specs.Cut.{partOf};
 ghost use Rattle.answering.specs.Feed.{mostHeld, owedOf, keptOf};
 ghost use Rattle.lichenoar.specs.Feed.{mostRoom};
-ghost use Rattle.lichenoar.specs.Turn.{partOf, AfterBytes};
+ghost use Rattle.lichenoar.specs.Turn.{AfterBytes};
 use crate::lines::advance;
-use crate::turn::State;
 use crate::turn::Turn;
 use crate::turn::tally;
 use libc::STDOUT_FILENO;
+use splitting::state::State;
 
 // The next byte to take, what is held then, how many bytes of answers there were, and how many of them the writer took.
 pub struct Delivery {

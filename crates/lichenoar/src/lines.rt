@@ -1,7 +1,6 @@
 // Bytes of the input taken in order: kept, or the line closed and its answer line written behind the ones before, with its newline.
 // Promised: fedOf of crate answering's specs/Feed.antt. Of a long line the first 57 bytes are kept, which say all that its answer depends on.
 ghost use mathlib.Core.Path.{_≡_};
-ghost use mathlib.Core.List.{[], _∷_, _++_};
 ghost use Prim.Native.Nat.{_+_, _-_, _≤_, _<_};
 ghost use lib.ListN.{length, take, drop};
 ghost use Rattle.frame.specs.Asking.{askedOf};
@@ -15,10 +14,8 @@ use frame::asking::Framed;
 use frame::asking::asked;
 use frame::asking::read_asking;
 use frame::layout::ASKING_LENGTH;
-
-pub const NEWLINE: u8 = 10;
-
-const MOST_HELD: usize = 57;
+use splitting::cut::NEWLINE;
+use splitting::cut::keep;
 
 // a frame's digits and its newline
 const LINE_LENGTH: usize = 57;
@@ -60,18 +57,6 @@ fn close_frame(fields: Fields, out: &mut [u8], filled: usize) -> usize
     end + 1
 }
 
-fn keep_byte(b: u8, line: &mut [u8], held: usize) -> usize
-    requires { ⌜ (length (now line) ≡ mostHeld) × (held ≤ mostHeld) ⌝ }
-    ensures { λ r. ⌜ (r ≤ mostHeld)
-        × (take r (now (line .exit)) ≡ take mostHeld (take held (now (line .entry)) ++ (b ∷ []))) ⌝ }
-{
-    if held < MOST_HELD {
-        line[held] = b;
-        return held + 1;
-    }
-    held
-}
-
 fn take_byte(b: u8, line: &mut [u8], held: usize, out: &mut [u8], filled: usize) -> Place
     requires { ⌜ (length (now line) ≡ mostHeld) × (held ≤ mostHeld) × (filled + mostRoom ≤ length (now out)) ⌝ }
     ensures { λ r. ⌜ Within (now (line .exit)) (r .held) (now (out .exit)) (r .filled)
@@ -86,7 +71,7 @@ fn take_byte(b: u8, line: &mut [u8], held: usize, out: &mut [u8], filled: usize)
         };
     }
     Place {
-        held: keep_byte(b, line, held),
+        held: keep(b, line, held),
         filled,
     }
 }

@@ -8,11 +8,11 @@ ghost use Rattle.answering.specs.Feed.{mostHeld};
 ghost use Rattle.lichenoar.specs.Feed.{mostRoom};
 ghost use Rattle.lichenoar.specs.Turn.{AtEnd, Taken, OneRead, Served};
 use crate::deliver::consume;
-use crate::lines::NEWLINE;
-use crate::turn::State;
 use crate::turn::Turn;
-use crate::turn::is_over;
 use libc::STDIN_FILENO;
+use splitting::cut::NEWLINE;
+use splitting::state::State;
+use splitting::state::is_over;
 
 // The last line may lack its newline: it is answered as if it had one.
 fn finish(line: &mut [u8], held: usize, out: &mut [u8], sent: u64) -> Turn

@@ -2,9 +2,9 @@
 // where that is open. A program of this language ends with status 0 always; whoever starts it turns the digit into a status.
 ghost use mathlib.Core.Path.{_≡_};
 ghost use Rattle.lichenoar.specs.Turn.{statusOf};
-use crate::lines::NEWLINE;
-use crate::turn::State;
 use libc::STDERR_FILENO;
+use splitting::cut::NEWLINE;
+use splitting::state::State;
 
 const STATUS_FILENO: i32 = 3;
 

@@ -1,15 +1,8 @@
 // How far the program is: what it holds of a line, how many bytes of answers the writer took, and whether it goes on or how it ended.
 ghost use mathlib.Core.Path.{_≡_};
 ghost use Prim.Native.Nat.{_+_};
-ghost use Rattle.lichenoar.specs.Turn.{tallied, isOver};
-
-// Going on; everything read and answered; a write that failed; a read that failed.
-pub enum State {
-    Going,
-    Whole,
-    Unwritten,
-    Unread,
-}
+ghost use Rattle.lichenoar.specs.Turn.{tallied};
+use splitting::state::State;
 
 pub struct Turn {
     pub held: usize,
@@ -24,15 +17,4 @@ pub fn tally(sent: u64, more: usize) -> u64
     ensures { λ r. ⌜ r ≡ tallied (sent + more) ⌝ }
 {
     (sent % ROUND + (more as u64) % ROUND) % ROUND
-}
-
-pub fn is_over(state: State) -> bool
-    ensures { λ r. ⌜ r ≡ isOver state ⌝ }
-{
-    match state {
-        State::Going => false,
-        State::Whole => true,
-        State::Unwritten => true,
-        State::Unread => true,
-    }
 }

@@ -3,3 +3,4 @@ pub mod CutFacts
 pub mod CountFacts
 pub mod KeepFacts
 pub mod EndedFacts
+pub mod StateFacts

@@ -2,3 +2,4 @@
 pub mod Lines
 pub mod Cut
 pub mod Count
+pub mod State

@@ -17,7 +17,7 @@ pub struct Piece {
 }
 
 // One byte behind what is held, where there is room for it.
-fn keep(b: u8, line: &mut [u8], held: usize) -> usize
+pub fn keep(b: u8, line: &mut [u8], held: usize) -> usize
     requires { ⌜ held ≤ length (now line) ⌝ }
     ensures { λ r. ⌜ (r ≤ length (now (line .entry)))
         × (take r (now (line .exit)) ≡ take (length (now (line .entry))) (take held (now (line .entry)) ++ (b ∷ []))) ⌝ }

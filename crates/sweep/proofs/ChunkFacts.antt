@@ -13,7 +13,7 @@ use Rattle.splitting.specs.Lines.{lastOf}
 use Rattle.splitting.specs.Cut.{closedIf, leftIf, leftBy, endedIn, partOf, Taken}
 use Rattle.splitting.proofs.CutFacts.{left-append, ended-append}
 use Rattle.splitting.proofs.KeepFacts.{part-more}
-use Rattle.sweep.specs.declared.turn.State.the-variants.{Going, Whole}
+use Rattle.splitting.specs.declared.state.State.the-variants.{Going, Whole}
 use Rattle.sweep.specs.declared.turn.Turn.{Turn}
 use Rattle.sweep.specs.Turn.{mostHeld, Grown, endedAs, Answered, AfterLine, Rested, Settled, Passed, Ended}
 use Rattle.sweep.proofs.TurnFacts.{grown-none, grown-as, grown-again}

@@ -16,7 +16,7 @@ use Rattle.splitting.specs.Lines.{lastOf, linesOf}
 use Rattle.splitting.specs.Cut.{leftBy, endedIn}
 use Rattle.splitting.specs.Count.{totalOf}
 use Rattle.splitting.proofs.CutFacts.{left-append, ended-append, lines-parts}
-use Rattle.sweep.specs.declared.turn.State.the-variants.{Going, Whole, Unwritten, Unread}
+use Rattle.splitting.specs.declared.state.State.the-variants.{Going, Whole, Unwritten, Unread}
 use Rattle.sweep.specs.declared.turn.Turn.{Turn}
 use Rattle.sweep.specs.Turn.{mostHeld, Grown, endedAs, Passed, AfterBytes, Ended, AtEnd, Failed, TakenSome, TakenRead, OneRead, start, statusOf, isRefused, Served}
 use Rattle.sweep.proofs.TurnFacts.{grown-none, grown-as, grown-again, grown-shortened, status-zero, none-refused}

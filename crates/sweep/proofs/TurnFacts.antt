@@ -1,21 +1,21 @@
 -- The counts of a line and of lines after others, and of lines that are shortened. Assumes nothing.
-use mathlib.Core.Path.{_≡_, refl, sym, ap, _∙_, subst}
+use mathlib.Core.Path.{_≡_, refl, sym, ap, _∙_}
 use mathlib.Core.Bool.{Bool, true, false, cond}
 use mathlib.Core.List.{List, [], _∷_, _++_}
 use Prim.Native.Nat.{ℕ, _+_, _<_}
 use native.Mathlib.Omega.{arith}
 use borrow.Author.Tests.{eq-eqb, ne-eqb, eqb-true}
-use lib.Dec.{T, eqb}
+use lib.Dec.{eqb}
 use lib.ListN.{length, take}
 use Rattle.splitting.specs.Cut.{shortened}
 use Rattle.splitting.specs.Count.{totalOf, counted, Adds}
 use Rattle.splitting.proofs.CountFacts.{total-append, total-shortened, adds-none, adds-again}
 use Rattle.sweeping.specs.Line.{lineSwept, lineBytes}
 use Rattle.sweeping.proofs.LineFacts.{refused-none, swept-kept, bytes-kept}
-use Rattle.sweep.specs.declared.turn.State.{State}
-use Rattle.sweep.specs.declared.turn.State.the-variants.{Going, Whole, Unwritten, Unread}
+use Rattle.splitting.specs.declared.state.State.{State}
+use Rattle.splitting.specs.declared.state.State.the-variants.{Going, Whole, Unwritten, Unread}
 use Rattle.sweep.specs.declared.turn.Turn.{Turn}
-use Rattle.sweep.specs.Turn.{mostHeld, isRequest, isRefused, frameBytes, Grown, endedAs, isOver, statusOf, start}
+use Rattle.sweep.specs.Turn.{mostHeld, isRequest, isRefused, frameBytes, Grown, endedAs, statusOf, start}
 
 -- ---- no lines, and some lines after others
 pub grown-none : (t : Turn) → Grown [] t t
@@ -107,13 +107,3 @@ status-zero Unread n e = absurd (omega arith)
 -- nothing counted, and nothing refused
 pub none-refused : (ls : List (List ℕ)) (r : Turn) → Grown ls start r → r .refused ≡ 0 → totalOf isRefused ls ≡ 0
 none-refused ls r g z = omega (arith, g .refused)
-
--- ---- is it over?
-pub not-over : (s : State) → isOver s ≡ false → s ≡ Going
-not-over Going e = refl
-not-over Whole e = absurd (subst T e tt)
-not-over Unwritten e = absurd (subst T e tt)
-not-over Unread e = absurd (subst T e tt)
-
-pub over-not-going : (s : State) → isOver s ≡ true → s ≡ Going → ⊥
-over-not-going s e f = subst T (sym e ∙ ap isOver f) tt

@@ -11,8 +11,8 @@ use Rattle.splitting.specs.Lines.{lastOf, linesOf}
 use Rattle.splitting.specs.Cut.{leftBy, leftIf, endedIn, closedIf}
 use Rattle.splitting.specs.Count.{totalOf, Adds}
 use Rattle.sweeping.specs.Line.{lineSwept, lineBytes}
-use Rattle.sweep.specs.declared.turn.State.{State}
-use Rattle.sweep.specs.declared.turn.State.the-variants.{Going, Whole, Unwritten, Unread}
+use Rattle.splitting.specs.declared.state.State.{State}
+use Rattle.splitting.specs.declared.state.State.the-variants.{Going, Whole, Unwritten, Unread}
 use Rattle.sweep.specs.declared.turn.Turn.{Turn}
 
 -- one byte more than a request has: a line that is as long or longer is malformed, whatever follows
@@ -99,14 +99,7 @@ pub record OneRead (held : List ℕ) (before : Turn) (line : List ℕ) (after : 
   pub buffer : List ℕ
   pub taken : TakenRead got buffer held before line after
 
--- ---- told at the end
-abbrev pub isOver : State → Bool
-isOver Going = false
-isOver Whole = true
-isOver Unwritten = true
-isOver Unread = true
-
--- 0 where everything was read and written and nothing refused, and else 1, as a digit
+-- ---- told at the end: 0 where everything was read and written and nothing refused, and else 1, as a digit
 abbrev pub statusOf : State → ℕ → ℕ
 statusOf Whole refused = cond (eqb refused 0) 48 49
 statusOf Going refused = 49

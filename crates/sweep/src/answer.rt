@@ -8,12 +8,12 @@ ghost use Rattle.sweeping.specs.Line.{lineSwept, lineBytes};
 ghost use Rattle.sweep.specs.Text.{Told};
 ghost use Rattle.sweep.specs.Turn.{mostRoom, AfterLine};
 use crate::text::refusal_text;
-use crate::turn::State;
 use crate::turn::Turn;
 use crate::turn::ended_as;
 use libc::STDERR_FILENO;
 use libc::STDOUT_FILENO;
 use splitting::count::count;
+use splitting::state::State;
 use sweeping::line::sweep_line;
 
 // The one place where frames leave the program: how many bytes of them the writer took. The line is there for the demand.

@@ -4,16 +4,16 @@
 ghost use mathlib.Core.Path.{_≡_};
 ghost use Prim.Native.Nat.{_≤_};
 ghost use lib.ListN.{length, take};
-ghost use Rattle.sweep.specs.declared.turn.State.the-variants.{Going};
+ghost use Rattle.splitting.specs.declared.state.State.the-variants.{Going};
 ghost use Rattle.sweep.specs.Turn.{mostHeld, mostRoom, Settled, AfterBytes, AtEnd, TakenRead, OneRead, Served};
 use crate::answer::answer;
-use crate::turn::State;
 use crate::turn::Turn;
 use crate::turn::ended_as;
-use crate::turn::is_over;
 use libc::STDIN_FILENO;
 use splitting::cut::Piece;
 use splitting::cut::take_line;
+use splitting::state::State;
+use splitting::state::is_over;
 
 // A line that has come to its end is answered; of any other the held bytes wait.
 fn settle(piece: Piece, line: &[u8], out: &mut [u8], turn: Turn) -> Turn

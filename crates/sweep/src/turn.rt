@@ -1,15 +1,8 @@
 // How far the program is: what it holds of a line; how many requests there were, how many refusals it told and how many bytes of frames the
 // writer took; and whether it goes on or how it ended.
 ghost use mathlib.Core.Path.{_≡_};
-ghost use Rattle.sweep.specs.Turn.{isOver, endedAs};
-
-// Going on; everything read and answered; a write that failed; a read that failed.
-pub enum State {
-    Going,
-    Whole,
-    Unwritten,
-    Unread,
-}
+ghost use Rattle.sweep.specs.Turn.{endedAs};
+use splitting::state::State;
 
 pub struct Turn {
     pub held: usize,
@@ -17,17 +10,6 @@ pub struct Turn {
     pub refused: u64,
     pub sent: u64,
     pub state: State,
-}
-
-pub fn is_over(state: State) -> bool
-    ensures { λ r. ⌜ r ≡ isOver state ⌝ }
-{
-    match state {
-        State::Going => false,
-        State::Whole => true,
-        State::Unwritten => true,
-        State::Unread => true,
-    }
 }
 
 // With nothing held, and this to say of how it ended.

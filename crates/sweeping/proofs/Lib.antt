@@ -5,3 +5,4 @@ pub mod LineFacts
 pub mod NumberFacts
 pub mod ReadBack
 pub mod OneFacts
+pub mod Examples

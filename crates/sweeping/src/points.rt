@@ -11,8 +11,7 @@ use frame::asking::Fields;
 use frame::asking::write_asking;
 use frame::layout::ASKING_LENGTH;
 use machine::bits::pattern;
-
-const NEWLINE: u8 = 10;
+use splitting::cut::NEWLINE;
 
 // a frame's digits and its newline
 pub const LINE_LENGTH: usize = 57;

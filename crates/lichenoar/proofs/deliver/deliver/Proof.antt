@@ -7,7 +7,7 @@ use native.Mathlib.Omega.{arith}
 use lib.ListN.{take}
 use lib.Seq.{length-take-le}
 use Rattle.answering.specs.Feed.{owedOf}
-use Rattle.lichenoar.specs.Turn.{partOf}
+use Rattle.splitting.specs.Cut.{partOf}
 use Rattle.lichenoar.proofs.TurnFacts.{is-owed, is-kept, owed-length}
 use borrow.Author.Needs.{needs}
 use Rattle.lichenoar.proofs.deliver.deliver.Statement.{statement}

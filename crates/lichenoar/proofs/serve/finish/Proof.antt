@@ -10,7 +10,7 @@ use lib.Seq.{length-take-le}
 use Rattle.answering.specs.Feed.{endedFrom}
 use Rattle.lichenoar.specs.Turn.{tallied}
 use Rattle.lichenoar.proofs.TurnFacts.{adds-none, last-owed}
-use Rattle.lichenoar.proofs.ServeFacts.{not-over, over-not-going}
+use Rattle.splitting.proofs.StateFacts.{not-over, over-not-going}
 use Rattle.lichenoar.proofs.serve.finish.Statement.{statement}
 use Rattle.lichenoar.proofs.serve.finish.Tie as tie
 

@@ -7,7 +7,8 @@ use borrow.Author.Needs.{needs}
 use lib.ListN.{length}
 use Rattle.answering.specs.Feed.{mostHeld, fedOf, owedOf, keptOf}
 use Rattle.lichenoar.proofs.TurnFacts.{adds-none}
-use Rattle.lichenoar.proofs.ServeFacts.{Reached, onward, is-over, not-over, over-not-going}
+use Rattle.splitting.proofs.StateFacts.{not-over, over-not-going}
+use Rattle.lichenoar.proofs.ServeFacts.{Reached, onward, is-over}
 use Rattle.lichenoar.proofs.serve.serve.Statement.{statement}
 use Rattle.lichenoar.proofs.serve.serve.Tie as tie
 

@@ -4,7 +4,7 @@ use mathlib.Core.Logic.{inl, inr}
 use Prim.Native.Nat.{ℕ, _-_}
 use native.Mathlib.Omega.{arith}
 use lib.ListN.{length, take}
-use Rattle.sweep.proofs.TurnFacts.{not-over, over-not-going}
+use Rattle.splitting.proofs.StateFacts.{not-over, over-not-going}
 use Rattle.sweep.proofs.ChunkFacts.{Consumed, consumed-none, consumed-next, consumed-all}
 use Rattle.sweep.proofs.serve.consume.Statement.{statement}
 use Rattle.sweep.proofs.serve.consume.Tie as tie

@@ -5,7 +5,7 @@ use Prim.Native.Nat.{ℕ, _<_}
 use native.Mathlib.Omega.{arith}
 use lib.ListN.{length, take}
 use lib.Seq.{length-take-le}
-use Rattle.sweep.proofs.TurnFacts.{not-over, over-not-going}
+use Rattle.splitting.proofs.StateFacts.{not-over, over-not-going}
 use Rattle.sweep.proofs.ChunkFacts.{ends-without, ends-with}
 use borrow.Author.Needs.{needs}
 use Rattle.sweep.proofs.serve.finish.Statement.{statement}

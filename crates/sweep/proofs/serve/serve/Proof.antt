@@ -4,10 +4,10 @@ use mathlib.Core.List.{List}
 use Prim.Native.Nat.{ℕ, _≤_}
 use native.Mathlib.Omega.{arith}
 use lib.ListN.{length}
-use Rattle.sweep.specs.declared.turn.State.the-variants.{Going}
+use Rattle.splitting.specs.declared.state.State.the-variants.{Going}
 use Rattle.sweep.specs.declared.turn.Turn.{Turn}
 use Rattle.sweep.specs.Turn.{mostHeld}
-use Rattle.sweep.proofs.TurnFacts.{not-over, over-not-going}
+use Rattle.splitting.proofs.StateFacts.{not-over, over-not-going}
 use Rattle.sweep.proofs.ServeFacts.{Reached, reached-none, onward, is-over, ends-unread, fails}
 use Rattle.sweep.proofs.serve.serve.Statement.{statement}
 use Rattle.sweep.proofs.serve.serve.Tie as tie

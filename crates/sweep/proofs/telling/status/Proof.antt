@@ -1,6 +1,6 @@
 -- `sweep::telling::status` meets its contract: by the state. Assumes nothing.
 use mathlib.Core.Path.{_≡_}
-use Rattle.sweep.specs.declared.turn.State.the-variants.{Whole}
+use Rattle.splitting.specs.declared.state.State.the-variants.{Whole}
 use Rattle.sweep.proofs.TurnFacts.{status-clean, status-refused}
 use borrow.Author.Needs.{needs}
 use Rattle.sweep.proofs.telling.status.Statement.{statement}

@@ -1,5 +1,6 @@
 -- The theorems, by topic: whole roots, sqrt, the seed and its Heron step, hypot.
 pub mod WholeRoot
+pub mod Digits
 pub mod Significand
 pub mod Shape
 pub mod Nearest
@@ -10,7 +11,6 @@ pub mod SeedSweep
 pub mod Off
 pub mod SeedClose
 pub mod Heron
-pub mod Corrections
 pub mod HypotCases
 pub mod Mixed
 pub mod HypotRoot

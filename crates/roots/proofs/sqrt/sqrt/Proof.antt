@@ -1,6 +1,6 @@
 -- `roots::sqrt::sqrt` meets its contract: the pattern tells the cases of the definition apart. Assumes nothing.
 use mathlib.Core.Path.{_≡_, sym, ap, _∙_, subst}
-use Prim.Native.Nat.{ℕ, _+_, _*_, _^_, _≤_, _<_}
+use Prim.Native.Nat.{ℕ, _+_, _*_, _%_, _^_, _≤_, _<_}
 use native.Mathlib.Omega.{arith}
 use lib.Dec.{T}
 use lib.Arith.{lt-of-le-ne}
@@ -30,9 +30,6 @@ digits-requires c κs = search needs
 add-result : tie.Need-add-result
 add-result c = search needs
 
-mul-result : tie.Need-mul-result
-mul-result c = search needs
-
 few : (c : tie.After-digits) → c .digits .result < 2 ^ 53
 few c = subst (λ (t : ℕ). t < 2 ^ 53) (sym (c .digits .ensures)) (digits-lt (c .before .before .before .pattern .result))
 
@@ -45,7 +42,9 @@ float-from-bits-result c = bits-no-nan _ (omega (arith, few c))
 returns : tie.Need-returns
 returns c =
     let u = c .before .before .before .pattern .result in
-    ap (λ (t : ℕ). ofBits binary64 (t + normalField u * 2 ^ 52)) (c .digits .ensures) ∙ sym (sqrt-normal u (c .before .if2 .taken) (c .before .before .if1 .taken)) ∙ ap sqrtOf (again (c .before .before .before))
+    let r = c .digits .result in
+    let e : r + normalField u * 2 ^ 52 % 2 ^ 64 ≡ r + normalField u * 2 ^ 52 = omega (arith, c .before .before .if1 .taken) in
+    ap (ofBits binary64) e ∙ ap (λ (t : ℕ). ofBits binary64 (t + normalField u * 2 ^ 52)) (c .digits .ensures) ∙ sym (sqrt-normal u (c .before .if2 .taken) (c .before .before .if1 .taken)) ∙ ap sqrtOf (again (c .before .before .before))
 
 returns-2 : tie.Need-returns-2
 returns-2 c = sqrt-zero _ _ (again (c .before .before .before)) (c .if3 .taken)
@@ -85,7 +84,6 @@ sqrt-spec =
     pattern-requires
     digits-requires
     add-result
-    mul-result
     add-result-2
     float-from-bits-result
     returns

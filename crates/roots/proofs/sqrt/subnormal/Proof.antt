@@ -29,14 +29,11 @@ sub-s c = omega (arith, range c)
 shl-v : tie.Need-shl-v
 shl-v c = omega (arith, range c)
 
-mul-v : tie.Need-mul-v
-mul-v c = search needs
-
 add-v : tie.Need-add-v
 add-v c = omega (arith, whole c, brought-most (c .args .u) (c .pre .0) (c .pre .1))
 
 digits-requires : tie.Need-digits-requires
-digits-requires c κs = search needs
+digits-requires c κs = omega (arith, whole c, brought-most (c .args .u) (c .pre .0) (c .pre .1))
 
 add-result : tie.Need-add-result
 add-result c = omega (arith, range (c .before))
@@ -44,12 +41,12 @@ add-result c = omega (arith, range (c .before))
 sub-result : tie.Need-sub-result
 sub-result c = omega (arith, range (c .before))
 
-mul-result : tie.Need-mul-result
-mul-result c = search needs
-
 -- the digits of the root
 found : (c : tie.After-digits) → c .digits .result ≡ nearestRoot 53 (normalDigits (brought (c .before .args .u)))
-found c = c .digits .ensures ∙ ap (λ (t : ℕ). nearestRoot 53 (normalDigits (t + shift (c .before .args .u) % 2 * 2 ^ 52))) (whole (c .before))
+found c =
+    let u = c .before .args .u in
+    let e : u * 2 ^ shift u % 2 ^ 64 + shift u * 2 ^ 63 % 2 ^ 64 / 2 ^ 11 ≡ brought u = omega (arith, whole (c .before)) in
+    c .digits .ensures ∙ ap (λ (t : ℕ). nearestRoot 53 (normalDigits t)) e
 
 few : (c : tie.After-digits) → c .digits .result < 2 ^ 53
 few c = subst (λ (t : ℕ). t < 2 ^ 53) (sym (found c)) (digits-lt (brought (c .before .args .u)))
@@ -60,9 +57,14 @@ add-result-2 c = omega (arith, few c, range (c .before))
 float-from-bits-result : tie.Need-float-from-bits-result
 float-from-bits-result c = bits-no-nan _ (omega (arith, few c, range (c .before)))
 
+-- nothing of the exponent is shifted out
+field : (c : tie.After-digits) → c .digits .result + (511 - (shift (c .before .args .u) + 1) / 2) * 2 ^ 52 % 2 ^ 64 ≡ c .digits .result + (511 - (shift (c .before .args .u) + 1) / 2) * 2 ^ 52
+field c = omega arith
+
 returns : tie.Need-returns
 returns c =
-    ap (λ (t : ℕ). ofBits binary64 (t + (511 - (shift (c .before .args .u) + 1) / 2) * 2 ^ 52)) (found c)
+    ap (ofBits binary64) (field c)
+    ∙ ap (λ (t : ℕ). ofBits binary64 (t + (511 - (shift (c .before .args .u) + 1) / 2) * 2 ^ 52)) (found c)
     ∙ sym (sqrt-subnormal (c .before .args .u) (c .before .pre .0) (c .before .pre .1))
 
 pub subnormal-spec : {M : Type 1} → statement M
@@ -72,12 +74,10 @@ subnormal-spec =
     cast-s
     sub-s
     shl-v
-    mul-v
     add-v
     digits-requires
     add-result
     sub-result
-    mul-result
     add-result-2
     float-from-bits-result
     returns)

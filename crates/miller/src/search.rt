@@ -3,6 +3,7 @@
 // From src/amos/right_half_plane.rs, determine_miller_starting_k. Promised for every argument: specs/Search.antt; a start is at most 256.
 ghost use mathlib.Core.Path.{_≡_};
 ghost use Rattle.miller.specs.Search.{startFrom, angleCorrection, rawStart, byRecurrence, curveOf, formulaOf, startOf};
+ghost use Rattle.miller.specs.shapes.Ahead.{precisionAt, atPrecision};
 ghost use Rattle.miller.specs.shapes.Correction.{correctionOf};
 use crate::point::Order;
 use crate::point::Point;
@@ -20,7 +21,7 @@ pub enum Start {
     Unmet,
 }
 
-fn start_from(raw: f64) -> Start
+pub fn start_from(raw: f64) -> Start
     ensures { λ r. ⌜ r ≡ startFrom raw ⌝ }
 {
     if raw > -1.0 {
@@ -32,7 +33,7 @@ fn start_from(raw: f64) -> Start
 }
 
 // (2/3)·52 - 6
-const THRESHOLD: f64 = 28.666666666666664;
+pub const THRESHOLD: f64 = 28.666666666666664;
 
 // With the sign of the angle; ZBKNU has its magnitude here.
 fn angle_correction(modulus: f64, angle: f64) -> f64
@@ -91,12 +92,23 @@ fn curve(point: Point, precision: f64) -> f64
     (precision + modulus * near / (1.0 + 0.008 * modulus)) / far
 }
 
+pub fn precision_at(rotation: f64, fourth: f64) -> f64
+    ensures { λ r. ⌜ r ≡ precisionAt rotation fourth ⌝ }
+{
+    ln(rotation * 1.8976999933151775 / (Machine::TOLERANCE * fourth))
+}
+
+pub fn at_precision(point: Point, precision: f64) -> f64
+    ensures { λ r. ⌜ r ≡ atPrecision point precision ⌝ }
+{
+    let height = curve(point, precision);
+    0.12125 * (height * height) / point.modulus + 1.5
+}
+
 fn formula(point: Point, rotation: f64) -> f64
     ensures { λ r. ⌜ r ≡ formulaOf point rotation ⌝ }
 {
-    let precision = ln(rotation * 1.8976999933151775 / (Machine::TOLERANCE * sqrt(point.root)));
-    let height = curve(point, precision);
-    0.12125 * (height * height) / point.modulus + 1.5
+    at_precision(point, precision_at(rotation, sqrt(point.root)))
 }
 
 pub fn search(point: Point, order: Order) -> Start

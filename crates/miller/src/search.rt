@@ -3,7 +3,6 @@
 // From src/amos/right_half_plane.rs, determine_miller_starting_k. Promised for every argument: specs/Search.antt; a start is at most 256.
 ghost use mathlib.Core.Path.{_≡_};
 ghost use Rattle.miller.specs.Search.{startFrom, angleCorrection, rawStart, byRecurrence, curveOf, formulaOf, startOf};
-ghost use Rattle.miller.specs.shapes.Ahead.{precisionAt, atPrecision};
 ghost use Rattle.miller.specs.shapes.Correction.{correctionOf};
 use crate::point::Order;
 use crate::point::Point;
@@ -21,7 +20,7 @@ pub enum Start {
     Unmet,
 }
 
-pub fn start_from(raw: f64) -> Start
+fn start_from(raw: f64) -> Start
     ensures { λ r. ⌜ r ≡ startFrom raw ⌝ }
 {
     if raw > -1.0 {
@@ -33,7 +32,7 @@ pub fn start_from(raw: f64) -> Start
 }
 
 // (2/3)·52 - 6
-pub const THRESHOLD: f64 = 28.666666666666664;
+const THRESHOLD: f64 = 28.666666666666664;
 
 // With the sign of the angle; ZBKNU has its magnitude here.
 fn angle_correction(modulus: f64, angle: f64) -> f64
@@ -92,23 +91,12 @@ fn curve(point: Point, precision: f64) -> f64
     (precision + modulus * near / (1.0 + 0.008 * modulus)) / far
 }
 
-pub fn precision_at(rotation: f64, fourth: f64) -> f64
-    ensures { λ r. ⌜ r ≡ precisionAt rotation fourth ⌝ }
-{
-    ln(rotation * 1.8976999933151775 / (Machine::TOLERANCE * fourth))
-}
-
-pub fn at_precision(point: Point, precision: f64) -> f64
-    ensures { λ r. ⌜ r ≡ atPrecision point precision ⌝ }
-{
-    let height = curve(point, precision);
-    0.12125 * (height * height) / point.modulus + 1.5
-}
-
 fn formula(point: Point, rotation: f64) -> f64
     ensures { λ r. ⌜ r ≡ formulaOf point rotation ⌝ }
 {
-    at_precision(point, precision_at(rotation, sqrt(point.root)))
+    let precision = ln(rotation * 1.8976999933151775 / (Machine::TOLERANCE * sqrt(point.root)));
+    let height = curve(point, precision);
+    0.12125 * (height * height) / point.modulus + 1.5
 }
 
 pub fn search(point: Point, order: Order) -> Start

@@ -2,10 +2,8 @@
 // ratio of the last two. From src/amos/right_half_plane.rs, compute_large_z_miller_seeds. Promised for every argument: specs/Seeds.antt;
 // refusal 6 exactly where the search finds no start.
 ghost use mathlib.Core.Path.{_≡_};
-ghost use Rattle.miller.specs.Backward.{complexSteps};
 ghost use Rattle.miller.specs.Seeds.{realSecond, realSeeds, complexSeeds, seedsFrom, seedsAt};
 ghost use Rattle.miller.specs.shapes.Ratio.{ratioUnless, productUnless};
-use crate::ahead::Ahead;
 use crate::backward::ComplexSteps;
 use crate::backward::RealSteps;
 use crate::backward::complex_steps;
@@ -84,30 +82,11 @@ fn complex_second(alone: bool, ratio: Complex, first: Complex) -> Complex
     ratio.product(first)
 }
 
-// The steps that were taken ahead, where they began at the start.
-fn steps_from(z: Complex, distance: f64, ahead: Ahead, start: u32) -> ComplexSteps
-    requires { ⌜ ahead .steps ≡ complexSteps z distance (ahead .start) ⌝ }
-    ensures { λ r. ⌜ r ≡ complexSteps z distance start ⌝ }
-{
-    if start == ahead.start {
-        return ahead.steps;
-    }
-    complex_steps(z, distance, start)
-}
-
 // The ratio comes first: the second seed waits for it longer than for the first seed.
-fn complex_seeds(
-    z: Complex,
-    order: Order,
-    coefficient: Complex,
-    alone: bool,
-    ahead: Ahead,
-    start: u32,
-) -> Miller
-    requires { ⌜ ahead .steps ≡ complexSteps z (order .distance) (ahead .start) ⌝ }
+fn complex_seeds(z: Complex, order: Order, coefficient: Complex, alone: bool, start: u32) -> Miller
     ensures { λ r. ⌜ r ≡ complexSeeds z order coefficient alone start ⌝ }
 {
-    let s = steps_from(z, order.distance, ahead, start);
+    let s = complex_steps(z, order.distance, start);
     let newer = s.newer;
     let sum = s.sum;
     let ratio = complex_ratio(alone, z, order.fraction, s);
@@ -122,22 +101,14 @@ fn complex_seeds(
     }
 }
 
-fn seeds_from(
-    point: Point,
-    order: Order,
-    coefficient: Complex,
-    alone: bool,
-    ahead: Ahead,
-    start: u32,
-) -> Miller
-    requires { ⌜ ahead .steps ≡ complexSteps (point .z) (order .distance) (ahead .start) ⌝ }
+fn seeds_from(point: Point, order: Order, coefficient: Complex, alone: bool, start: u32) -> Miller
     ensures { λ r. ⌜ r ≡ seedsFrom point order coefficient alone start ⌝ }
 {
     let z = point.z;
     if is_real(z) {
         return real_seeds(z.re, order, coefficient.re, alone, start);
     }
-    complex_seeds(z, order, coefficient, alone, ahead, start)
+    complex_seeds(z, order, coefficient, alone, start)
 }
 
 // From the start that `search` finds for the point and the order. The coefficient does not wait for it: it is worked out between the two.
@@ -146,16 +117,12 @@ pub fn seeds_at(
     order: Order,
     coefficient: Complex,
     alone: bool,
-    ahead: Ahead,
     found: Start,
 ) -> MillerSeeds
-    requires { ⌜ ahead .steps ≡ complexSteps (point .z) (order .distance) (ahead .start) ⌝ }
     ensures { λ r. ⌜ r ≡ seedsAt point order coefficient alone found ⌝ }
 {
     match found {
-        Start::At(start) => {
-            MillerSeeds::Pair(seeds_from(point, order, coefficient, alone, ahead, start))
-        }
+        Start::At(start) => MillerSeeds::Pair(seeds_from(point, order, coefficient, alone, start)),
         Start::Unmet => MillerSeeds::Refused(Refusal::Start),
     }
 }

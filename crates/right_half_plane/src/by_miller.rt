@@ -14,7 +14,6 @@ use complex::number::Complex;
 use complex::number::real_over;
 use machine::constants::Machine;
 use machine::magnitude::magnitude;
-use miller::ahead::steps_ahead;
 use miller::point::Order;
 use miller::point::Point;
 use miller::point::at;
@@ -142,17 +141,15 @@ pub fn other_seeds(g: Ground, scaled: bool) -> Seeded
     ensures { λ r. ⌜ r ≡ otherSeeds g scaled ⌝ }
 {
     let z = g.z;
+    let root = sqrt(g.modulus);
     let angle = z.argument();
     let underflow = is_far(scaled, z);
     if is_half(g.fraction) {
-        let half = sqrt(g.modulus);
-        return half_seeds(underflow, coefficient(scaled, underflow, z, half, angle));
+        return half_seeds(underflow, coefficient(scaled, underflow, z, root, angle));
     }
-    let order = order_of(g.fraction, g.square);
-    let ahead = steps_ahead(z, g.modulus, angle, order);
-    let root = sqrt(g.modulus);
     let point = point_with(z, g.modulus, root, angle);
+    let order = order_of(g.fraction, g.square);
     let found = search(point, order);
     let value = coefficient(scaled, underflow, z, root, angle);
-    miller_seeds(underflow, seeds_at(point, order, value, is_alone(g), ahead, found))
+    miller_seeds(underflow, seeds_at(point, order, value, is_alone(g), found))
 }

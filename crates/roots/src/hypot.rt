@@ -11,8 +11,7 @@ use machine::bits::pattern;
 use machine::constants::not_a_number;
 use machine::magnitude::magnitude;
 
-// The root of the value of a pattern, not rounded to the nearest: for a length, and where a root that is near is enough.
-pub fn root(u: u64) -> f64
+fn root(u: u64) -> f64
     ensures { λ r. ⌜ r ≡ rootAt u ⌝ }
 {
     twice_root(u)

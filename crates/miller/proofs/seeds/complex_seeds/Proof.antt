@@ -10,8 +10,8 @@ use borrow.Author.Needs.{needs}
 use Rattle.miller.proofs.seeds.complex_seeds.Statement.{statement}
 use Rattle.miller.proofs.seeds.complex_seeds.Tie as tie
 
-steps-from-requires : tie.Need-steps-from-requires
-steps-from-requires c κs = search needs
+complex-steps-requires : tie.Need-complex-steps-requires
+complex-steps-requires c κs = search needs
 
 complex-ratio-requires : tie.Need-complex-ratio-requires
 complex-ratio-requires c κs = search needs
@@ -57,7 +57,7 @@ returns c =
       d .conjugate .ensures,
       d .before .modulus .ensures,
       d .before .before .complex-ratio .ensures,
-      d .before .before .before .before .before .steps-from .ensures,
+      d .before .before .before .before .before .complex-steps .ensures,
       second-is,
     )
 
@@ -65,7 +65,7 @@ pub complex-seeds-spec : {M : Type 1} → statement M
 complex-seeds-spec =
     tie.close
     (tie.spec
-    steps-from-requires
+    complex-steps-requires
     complex-ratio-requires
     modulus-requires
     conjugate-requires

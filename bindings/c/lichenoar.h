@@ -34,7 +34,7 @@
 #include <stdint.h>
 
 /* The version that this header came with, as words and as numbers. */
-#define LICHENOAR_VERSION "0.4.0"
+#define LICHENOAR_VERSION "0.4.1"
 #define LICHENOAR_VERSION_MAJOR 0
 #define LICHENOAR_VERSION_MINOR 4
 #define LICHENOAR_VERSION_PATCH 0

@@ -20,7 +20,7 @@ as_archived() {
 
 if [ "$(uname -m)" = x86_64 ]; then
     keep_module
-    quiet env RATTLE_HOME="$shadow" rt staticlib capi
+    RATTLE_HOME=$shadow rt staticlib capi > target/host/log 2>&1 || { tail -n 20 target/host/log; exit 1; }
 fi
 as_archived x86_64 target/staticlib/libcapi.a --target=x86_64-unknown-linux-gnu -march=x86-64 -ffunction-sections -fdata-sections -mllvm -trap-unreachable \
     -mllvm -no-trap-after-noreturn -fPIC -O3 -x ir "$module"

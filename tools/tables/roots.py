@@ -1,11 +1,8 @@
 #!/usr/bin/env python3
 """The seed of a square root on [1, 4): 128 pieces, each with the quadratic that meets the root at the three Chebyshev points of the piece.
 roots.py writes src/tables.rt and specs/Tables.antt of crate roots_tables and the proof that they agree, from one list.
-roots.py --check writes nothing: it compares the files with the list, each constant with its value at 400 bits, and prints the largest relative error of the seed's square
-and, of drawn arguments, how many of the roots that the f64 steps give are off, and by how many units. It fails above 2, which is proved (crates/roots/proofs/Corrections.antt)."""
-import math
+roots.py --check writes nothing: it compares the files with the list, each constant with its value at 400 bits, and prints the largest relative error of the seed's square."""
 import os
-import random
 import struct
 import sys
 from fractions import Fraction
@@ -134,34 +131,10 @@ def seed_error(columns):
     return worst
 
 
-def of_bits(u):
-    return struct.unpack('>d', struct.pack('>Q', u))[0]
-
-
-def distances(columns, size):
-    """How often the 53 digits of s + f / s, as estimate of src/sqrt.rt takes them, are so many units above the nearest root of f in [1, 4)."""
-    random.seed(644)
-    found = {}
-    for _ in range(size):
-        w = random.getrandbits(53)
-        f, left = of_bits(w + bits(1.0)), of_bits(w - w % 2 ** 46 + bits(1.0))
-        constant, slope, bend = (column[w >> 46] for column in columns)
-        s = constant + slope * (f - left) - bend * (f - left) * (f - left)
-        n = (w + 2 ** 52 if w < 2 ** 52 else 2 * w) << 52
-        floor = math.isqrt(n)
-        root = floor + (floor * floor + floor < n)
-        off = bits(s + f / s) - bits(1.0) - root
-        found[off] = found.get(off, 0) + 1
-    return found
-
-
 def check(columns):
     for path, text in files(columns):
         assert open(path, encoding='utf-8').read() == text, path
     print(f'{3 * PIECES} constants, each the nearest binary64; the square of the seed is within {float(seed_error(columns)):.3e} of its argument, relatively')
-    found = distances(columns, 400000)
-    print(f'of {sum(found.values())} estimates off by units: ' + ', '.join(f'{off}: {found[off]}' for off in sorted(found)))
-    assert max(map(abs, found)) <= 2
 
 
 if __name__ == '__main__':

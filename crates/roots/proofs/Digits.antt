@@ -1,9 +1,9 @@
 -- A root found digit by digit, as at school: what is left is the number less the square so far, and below the next digit's step. What a digit of 0 or 1 makes of it, and that the digits end at the nearest root. Assumes nothing.
 use mathlib.Core.Path.{_≡_, refl, sym, ap, _∙_, subst}
 use mathlib.Core.Bool.{Bool, true, false, cond}
-use mathlib.Core.Logic.{_⊎_, inl, inr}
+use mathlib.Core.Logic.{inl, inr}
 use Prim.Native.Nat.{ℕ, zero, suc, _+_, _-_, _*_, _/_, _^_, _≤_, _<_}
-use native.Mathlib.Nat.{le-trans, le-of-eq, mul-comm, mul-assoc, mul-left-comm, add-mul, mul-add, mul-one, one-mul, pow-suc, pow-zero, sub-zero, mul-lt-mul-of-pos-left}
+use native.Mathlib.Nat.{mul-comm, mul-assoc, mul-left-comm, add-mul, mul-add, one-mul, pow-suc, pow-zero, sub-zero, mul-lt-mul-of-pos-left}
 use native.Mathlib.Omega.{arith}
 use lib.Dec.{ltb}
 use lib.Pow.{pow-pos}

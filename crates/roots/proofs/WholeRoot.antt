@@ -1,12 +1,11 @@
--- The whole number nearest to a root: what says that r is it, that there is one only, that `nearestRoot` is it, and how four comparisons of squares find it. Assumes nothing.
-use mathlib.Core.Path.{_≡_, refl, sym, ap, _∙_, subst}
+-- The whole number nearest to a root: what says that r is it, that there is one only, and that `nearestRoot` is it. Assumes nothing.
+use mathlib.Core.Path.{_≡_, ap, _∙_, subst}
 use mathlib.Core.Logic.{_⊎_, inl, inr}
 use mathlib.Core.Bool.{Bool, true, false, not, cond}
-use Prim.Native.Nat.{ℕ, zero, suc, _+_, _-_, _*_, _/_, _%_, _^_, _≤_, _<_}
-use native.Mathlib.Nat.{le-antisymm, mul-le-mul, mul-comm, mul-assoc, mul-left-comm, add-mul, mul-add, mul-one, one-mul, pow-suc, pow-zero, lt-of-le-of-lt}
+use Prim.Native.Nat.{ℕ, zero, suc, _+_, _*_, _/_, _^_, _≤_, _<_}
+use native.Mathlib.Nat.{le-antisymm, mul-le-mul, mul-comm, mul-assoc, mul-left-comm, add-mul, mul-add, mul-one, one-mul, pow-suc, pow-zero}
 use native.Mathlib.Omega.{arith}
-use lib.Dec.{T, lit<, leb, ltb, leb→le, nleb→lt, ltb→lt, nltb→le}
-use borrow.Author.Tests.{lt-ltb, le-ltb}
+use lib.Dec.{T, leb, ltb, leb→le, nleb→lt, ltb→lt, nltb→le}
 use Rattle.roots.specs.Sqrt.{root, nearestRoot}
 
 pub which : (a b : ℕ) → (a < b) ⊎ (b ≤ a)
@@ -100,14 +99,6 @@ not-above n r s a h = elim (which s r) [ inl k ↦ absurd (clash r k a) | inr k 
         let e : suc q ≡ q + 1 = omega arith in
         let f : suc q * suc q ≡ q * q + q + (q + 1) = ap (λ (x : ℕ). x * x) e ∙ simp (add-mul, mul-add, mul-one, one-mul) in
         omega (arith, b .1)
-
--- the root of a number below 2 ^ 106
-pub nearest-lt : (n r : ℕ) → Nearest n r → n < 2 ^ 106 → r < 2 ^ 54
-nearest-lt n r a h = lt-of-le-of-lt (not-above n r (2 ^ 53) a (omega arith)) (lit< tt)
-
--- above zero where n is
-pub nearest-pos : (n r : ℕ) → Nearest n r → 0 < n → 0 < r
-nearest-pos n r a h = above-below n r 0 a h
 
 -- the 54 digits of a significand and 52 more
 scaled-lt : (n : ℕ) → n < 2 ^ 54 → n * 2 ^ 52 < 4 ^ 53

@@ -28,10 +28,10 @@ number c =
     ⊎-elim
     (λ a. let e : n ≡ w + 2 ^ 52 = a .1 in let h : w < 2 ^ 52 = a .0 .taken in (e ∙ sym (low-scaled w h) ∙ ap scaled (same u), omega arith, omega arith))
     (λ a.
-        let e : n ≡ w * 2 % 2 ^ 64 = a .1 in
-        let f : n ≡ w * 2 = omega arith in
-        let h : 2 ^ 52 ≤ w = a .0 .left in
-        (f ∙ sym (high-scaled w h) ∙ ap scaled (same u), omega arith, omega arith))
+    let e : n ≡ w * 2 % 2 ^ 64 = a .1 in
+    let f : n ≡ w * 2 = omega arith in
+    let h : 2 ^ 52 ≤ w = a .0 .left in
+    (f ∙ sym (high-scaled w h) ∙ ap scaled (same u), omega arith, omega arith))
     (c .if1 .came)
 
 nearest-requires : tie.Need-nearest-requires

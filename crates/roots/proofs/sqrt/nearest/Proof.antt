@@ -1,6 +1,6 @@
 -- `roots::sqrt::nearest` meets its contract: at every turn of the loop what is left is the number less the square so far, and below the next digit's step. Assumes nothing.
-use mathlib.Core.Path.{_≡_, sym, ap, _∙_, subst}
-use Prim.Native.Nat.{ℕ, _+_, _-_, _*_, _/_, _%_, _^_, _≤_, _<_}
+use mathlib.Core.Path.{sym, ap, _∙_, subst}
+use Prim.Native.Nat.{ℕ, _+_, _-_, _*_, _/_, _^_, _≤_, _<_}
 use native.Mathlib.Omega.{arith}
 use borrow.Author.Needs.{needs}
 use Rattle.roots.proofs.Digits.{Partway, first, sizes, offOf, twiceOf, next, ended, at-most-one}
@@ -26,7 +26,7 @@ small c = let l = c .before .loop in sizes _ (l .left) (l .twice) (l .unit) (l .
 -- what a turn makes of the numbers
 turn : (c : tie.In-loop Inv-loop μ-loop) → (offOf (c .before .loop .left) (c .before .loop .twice) (c .before .loop .unit) ≤ c .before .loop .left + c .before .loop .left)
     × Partway (c .before .before .args .n) (c .before .loop .left + c .before .loop .left - offOf (c .before .loop .left) (c .before .loop .twice) (c .before .loop .unit)) (twiceOf (c .before .loop .left) (c .before .loop .twice) (c .before .loop .unit)) (c .before .loop .unit / 2)
-turn c = let l = c .before .loop in next _ (l .left) (l .twice) (l .unit) (l .inv) (c .loop-test .taken)
+turn c = let l = c .before .loop in next _ (l .left) (l .twice) (l .unit) (l .inv) (omega (arith, c .loop-test .taken))
 
 add-trial : tie.Need-add-trial Inv-loop μ-loop
 add-trial c = omega (arith, small c)

@@ -6,9 +6,9 @@
 
 #define TEN(x) x x x x x x x x x x
 #if defined(__aarch64__)
-#define ADD "add %0, %0, #1\n\t"
+#define ADD "add %0, %0, %1\n\t"
 #elif defined(__x86_64__)
-#define ADD "addq $1, %0\n\t"
+#define ADD "addq %1, %0\n\t"
 #endif
 
 static double now(void) {
@@ -21,10 +21,10 @@ int main(void) {
 #ifdef ADD
     enum { CHAIN = 1000, TURNS = 200, TRIALS = 100 };
     double best = 1e300;
-    uint64_t sum = 0;
+    uint64_t sum = 0, one = 1; /* a register: of numbers in the instruction some processors add several at once */
     for (int trial = 0; trial < TRIALS; trial++) {
         double begun = now(), spent;
-        for (int turn = 0; turn < TURNS; turn++) __asm__ volatile(TEN(TEN(TEN(ADD))) : "+r"(sum) : : "cc");
+        for (int turn = 0; turn < TURNS; turn++) __asm__ volatile(TEN(TEN(TEN(ADD))) : "+r"(sum) : "r"(one) : "cc");
         spent = now() - begun;
         if (spent < best) best = spent;
     }

@@ -4,20 +4,20 @@
 // sum of the squares by one part in 2^40 at most. Measured error 1.58 units in the last place.
 ghost use mathlib.Core.Path.{_≡_};
 ghost use mathlib.Core.Bool.{false, _&&_};
-ghost use lib.Ieee.{le};
-ghost use Rattle.roots.specs.Hypot.{rootAt, infinite, sumOfSquares, leastSum, greatestSum, scaledHypot, hypotOf};
+ghost use Prim.Native.Nat.{_+_, _*_, _/_, _%_, _^_};
+ghost use lib.Ieee.{binary64, ofBits, le};
+ghost use Rattle.roots.specs.Hypot.{infinite, sumOfSquares, leastSum, greatestSum, scaledHypot, hypotOf};
 use crate::seed::twice_root;
 use machine::bits::pattern;
 use machine::constants::not_a_number;
 use machine::magnitude::magnitude;
 
-fn root(u: u64) -> f64
-    ensures { λ r. ⌜ r ≡ rootAt u ⌝ }
+// What twice the root of a significand is multiplied with: half of the power of two whose square was taken off. The product is written where it
+// is taken, in two places: in a function of its own the compiler would put the Heron step into it, and make other code of hypot than it did.
+fn half_power(u: u64) -> f64
+    ensures { λ r. ⌜ r ≡ ofBits binary64 ((u % 2 ^ 63 / 2 ^ 52 + 1021) / 2 * 2 ^ 52) ⌝ }
 {
-    twice_root(u)
-        * f64::from_bits(
-            (u % 0x8000000000000000 / 0x0010000000000000 + 1021) / 2 * 0x0010000000000000,
-        )
+    f64::from_bits((u % 0x8000000000000000 / 0x0010000000000000 + 1021) / 2 * 0x0010000000000000)
 }
 
 fn is_infinite(x: f64) -> bool
@@ -31,7 +31,8 @@ fn scaled(a: f64, b: f64, x: f64, y: f64) -> f64
 {
     let p = x * a;
     let q = y * a;
-    root(pattern(p * p + q * q)) * b
+    let s = pattern(p * p + q * q);
+    twice_root(s) * half_power(s) * b
 }
 
 // Where the sum of the squares says nothing yet: a part is infinite or not a number, or the squares leave the range.
@@ -75,7 +76,8 @@ pub fn hypot(x: f64, y: f64) -> f64
             if y == 0.0 {
                 return magnitude(x);
             }
-            return root(f64::to_bits(s));
+            let u = f64::to_bits(s);
+            return twice_root(u) * half_power(u);
         }
         return outside(x, y);
     }

@@ -5,7 +5,7 @@ use lib.Ieee.{ofBits}
 use lib.Ieee.Scale.{finite}
 use borrow.Author.Needs.{needs}
 use Rattle.laws.proofs.Value.{finite-no-nan}
-use Rattle.roots.specs.Hypot.{sumOfSquares, leastSum, greatestSum}
+use Rattle.roots.specs.Hypot.{rootAt, sumOfSquares, leastSum, greatestSum}
 use Rattle.roots.proofs.HypotCases.{within-range, zero-left, zero-right, full, full-within}
 use Rattle.roots.proofs.hypot.hypot.Statement.{statement}
 use Rattle.roots.proofs.hypot.hypot.Tie as tie
@@ -28,22 +28,25 @@ returns-2 : tie.Need-returns-2
 unfolding ofBits
 returns-2 c = let i = inside (c .before .before .before) in c .magnitude2 .ensures ∙ sym (zero-right _ _ (i .1) (i .2) (c .before .before .if3 .left) (c .before .if4 .taken))
 
-float-to-bits-root : tie.Need-float-to-bits-root
+float-to-bits-u : tie.Need-float-to-bits-u
 unfolding sumOfSquares
-float-to-bits-root c = finite-no-nan _ (inside (c .before .before) .0)
+float-to-bits-u c = finite-no-nan _ (inside (c .before .before) .0)
 
-root-requires : tie.Need-root-requires
-root-requires c κs = search needs
+twice-root-requires : tie.Need-twice-root-requires
+twice-root-requires c κs = search needs
+
+half-power-requires : tie.Need-half-power-requires
+half-power-requires c κs = search needs
 
 -- between the two tests of the range the full length is the root of the sum itself
 returns-3 : tie.Need-returns-3
-unfolding ofBits sumOfSquares leastSum greatestSum
+unfolding ofBits sumOfSquares leastSum greatestSum rootAt
 returns-3 c =
-    let i = inside (c .before .before .before) in
-    c .root .ensures
-    ∙ sym
-    (full _ _ (i .1) (i .2) (c .before .before .if3 .left) (c .before .if4 .left)
-    ∙ full-within _ _ (c .before .before .before .before .if1 .taken) (c .before .before .before .if2 .taken))
+    let i = inside (c .before .before .before .before) in
+    rw (c .before .twice-root .ensures, c .half-power .ensures)
+    (sym
+    (full _ _ (i .1) (i .2) (c .before .before .before .if3 .left) (c .before .before .if4 .left)
+    ∙ full-within _ _ (c .before .before .before .before .before .if1 .taken) (c .before .before .before .before .if2 .taken)))
 
 outside-requires : tie.Need-outside-requires
 unfolding sumOfSquares leastSum greatestSum
@@ -67,8 +70,9 @@ hypot-spec =
     returns
     magnitude-requires-2
     returns-2
-    float-to-bits-root
-    root-requires
+    float-to-bits-u
+    twice-root-requires
+    half-power-requires
     returns-3
     outside-requires
     returns-4

@@ -37,7 +37,7 @@
 #define LICHENOAR_VERSION "0.4.1"
 #define LICHENOAR_VERSION_MAJOR 0
 #define LICHENOAR_VERSION_MINOR 4
-#define LICHENOAR_VERSION_PATCH 0
+#define LICHENOAR_VERSION_PATCH 1
 
 #ifdef __cplusplus
 extern "C" {

@@ -1,6 +1,6 @@
 #!/usr/bin/env bash
 # program.sh [NAME]: writes target/host/NAME, a program (the frame program where none is named) for the processor of this machine, unless it is newer than its sources. On x86-64
-# it is target/bin/NAME itself. Elsewhere it is the same LLVM module, compiled for this processor (tools/host/module.sh) and linked with this machine's C library. `rt try` makes
+# it is target/bin/NAME itself, or, where the C library here is older than the kit's and cannot start it, the object of that program linked with the one here. Elsewhere it is the same LLVM module, compiled for this processor (tools/host/module.sh) and linked with this machine's C library. `rt try` makes
 # the module with no second proof; its code for x86-64 must be that of the proved program, function by function (tools/host/same_code.py), and else NAME is proved again for it.
 # Where something that it needs is missing, one line says what to run first, and the status is 1; it is 2 where there is no program NAME.
 set -eu
@@ -56,7 +56,13 @@ program_built "$name"
 alone
 if made; then exit 0; fi
 if [ "$kit_machine" = x86_64 ]; then
-    cp "target/bin/$name" "target/host/$name"
+    if "target/bin/$name" < /dev/null > target/host/log 2>&1; then
+        cp "target/bin/$name" "target/host/$name"
+    else
+        command -v gcc > /dev/null || missing "the C library here cannot start target/bin/$name, and there is no gcc to link it again; install it first (Debian: apt-get install gcc)"
+        [ -f "target/obj/$name.o" ] || missing "target/obj/$name.o, the object of the proved program, is missing; first run: rm -f target/stamp/$name && ./run $name < /dev/null"
+        gcc -o "target/host/$name" "target/obj/$name.o" -lm
+    fi
 else
     proved_here
     crates_of "$name"

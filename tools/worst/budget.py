@@ -8,7 +8,7 @@ import sys
 
 import count
 
-BESIDE = {"temme": 2200, "complex": 2050, "real": 1700, "half": 1300}
+BESIDE = {"temme": 2200, "complex": 3200, "real": 3400, "half": 1900}
 
 
 def word(x):
@@ -42,7 +42,7 @@ def k_budget(v, r, re, im, n, scaled, answer):
     seeds = {"temme": 51 * terms, "complex": 28 * backward, "real": 18 * backward, "half": 0}[path]
     if re > 664 and not scaled:
         # every value on the way may be tried
-        return 3000 + seeds + 720 * rungs + filled
+        return 4150 + seeds + 720 * rungs + filled
     return BESIDE[path] + seeds + 22 * (rungs - entries) + 30 * entries + filled
 
 

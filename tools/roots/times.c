@@ -13,6 +13,8 @@ FORMS(DECLARED)
 static const struct { const char *name; u64 (*root)(u64); } forms[] = { FORMS(LISTED) };
 enum { SINGLE = 11, COUNT = sizeof forms / sizeof *forms, CALLS = 20000, TRIALS = 60 };
 
+volatile u64 sink;
+
 static double now(void) {
     struct timespec t;
     clock_gettime(CLOCK_MONOTONIC, &t);
@@ -51,5 +53,6 @@ int main(void) {
         }
         printf("| %s | %.1f | %.1f |\n", forms[f].name, waiting / CALLS, free / CALLS);
     }
-    return sum == 1;
+    sink = sum;
+    return 0;
 }

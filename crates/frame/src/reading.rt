@@ -85,6 +85,18 @@ fn rest_inside(number: u32, rest: usize) -> bool
     rest % PAIR_WIDTH == 0
 }
 
+// A line that is known to be of digits alone.
+pub fn read_digits(line: &[u8]) -> Reading
+    requires { ⌜ (recordLength ≤ length (now line)) × (areDigits (now line) ≡ true) ⌝ }
+    ensures { λ r. ⌜ r ≡ readingOf (now (line .entry)) ⌝ }
+{
+    let record = read_record(line);
+    if rest_inside(record.number, line.len() - RECORD_LENGTH) {
+        return Reading::Readable(record);
+    }
+    Reading::Unreadable
+}
+
 pub fn read_answer(line: &[u8]) -> Reading
     ensures { λ r. ⌜ r ≡ readingOf (now (line .entry)) ⌝ }
 {
@@ -94,11 +106,7 @@ pub fn read_answer(line: &[u8]) -> Reading
     if !are_digits(line) {
         return Reading::Unreadable;
     }
-    let record = read_record(line);
-    if rest_inside(record.number, line.len() - RECORD_LENGTH) {
-        return Reading::Readable(record);
-    }
-    Reading::Unreadable
+    read_digits(line)
 }
 
 // The bits of the cell i, re before im: those of pair k are cells 2k and 2k + 1.

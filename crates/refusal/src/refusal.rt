@@ -1,7 +1,7 @@
 // The refusals, in the order of their numbers. A call gives the first that applies in the order of its own checks; an answer has the number 0.
 // docs/SCOPE.md says exactly when each is given. Promised: the numbers of specs/Number.antt, no two of which are equal.
 ghost use mathlib.Core.Path.{_≡_};
-ghost use Rattle.refusal.specs.Number.{numberOf};
+ghost use Rattle.refusal.specs.Number.{numberOf, isListed};
 
 pub enum Refusal {
     // the buffer's length is odd, 0, or too large
@@ -30,6 +30,8 @@ pub enum Refusal {
     Size,
     // a sweep of no steps, or of more than 4,096
     Steps,
+    // a page of more than 4,294,967,295 lines
+    Full,
 }
 
 impl Refusal {
@@ -50,6 +52,20 @@ impl Refusal {
             Refusal::Sign => 11,
             Refusal::Size => 12,
             Refusal::Steps => 13,
+            Refusal::Full => 15,
         }
     }
+}
+
+// Whether a refusal has this number: whoever reads an answer line asks.
+pub fn is_listed(number: u32) -> bool
+    ensures { λ r. ⌜ r ≡ isListed number ⌝ }
+{
+    if number == 0 {
+        return false;
+    }
+    if number <= 13 {
+        return true;
+    }
+    number == 15
 }

@@ -1,0 +1,5 @@
+-- What the functions rest on, and what a page comes to.
+pub mod CellFacts
+pub mod PartFacts
+pub mod SaidFacts
+pub mod StepFacts

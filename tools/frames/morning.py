@@ -82,15 +82,14 @@ def asked(words):
         if not name or name.startswith("-") and (word, name) != ("--night", "-"):
             raise Wrong(f"{word}: {visible(name)} is no name of a file; write ./ before it if it is one")
         options[word] = name
-    if len(options) == 2 and os.path.exists(options["--html"]) and same_file(options):
-        raise Wrong("--html would write over the night; name another file")
+    if "--html" in options and same_file(options["--html"], options.get("--night", "-")):
+        raise Wrong("--html would write over what is read; name another file")
     return options
 
 
-def same_file(options):
-    night = options["--night"]
+def same_file(name, read):
     try:
-        return os.path.samefile(options["--html"], night if night != "-" else "/dev/stdin")
+        return os.path.samefile(name, read if read != "-" else "/dev/stdin")
     except OSError:
         return False
 
@@ -142,12 +141,10 @@ def refused_in(lines):
     found = {}
     while not found or (lines.ahead() or b"").startswith(b"refused"):
         name = re.match(rb"refused ([1-9][0-9]{0,2}) ", lines.ahead() or b"")
-        if not name:
-            lines.take("refused and a refusal's number", MOST_LINES)
-        given = int(name[1])
-        count = lines.take(f"refused {given}", MOST_LINES)
-        if given > MOST_NUMBER:
-            raise lines.wrong(f"{given} is no refusal's number; these go to {MOST_NUMBER}")
+        given = int(name[1]) if name else 0
+        count = lines.take(f"refused {given or 'K'}", MOST_LINES)
+        if not 1 <= given <= MOST_NUMBER:
+            raise lines.wrong(f"{given or 'K'} is no refusal's number; these go from 1 to {MOST_NUMBER}")
         if found and given <= max(found):
             raise lines.wrong(f"refused {given} does not come after refused {max(found)}")
         found[given] = count
@@ -519,7 +516,8 @@ def shown_text(page, night, known):
 # ---- for a browser
 STYLE = """
 :root{color-scheme:light dark;--ground:#fff;--ink:#1c2430;--soft:#566070;--rule:#d5dae1;--answered:#0072b2;--refused:#b84a00;--unreadable:#6b7280}
-@media (prefers-color-scheme:dark){:root{--ground:#12161c;--ink:#e8ecf1;--soft:#a7b1bd;--rule:#343c47;--answered:#58b0e3;--refused:#f0955a;--unreadable:#9aa4b2}}
+@media (prefers-color-scheme:dark){:root{--ground:#12161c;--ink:#e8ecf1;--soft:#a7b1bd;--rule:#343c47;
+--answered:#58b0e3;--refused:#f0955a;--unreadable:#9aa4b2}}
 *{box-sizing:border-box}
 body{margin:0;background:var(--ground);color:var(--ink);font:1rem/1.45 system-ui,"Segoe UI",Roboto,"Helvetica Neue",Arial,"DejaVu Sans",sans-serif}
 main{max-width:56rem;margin:0 auto;padding:1.5rem 1rem 3rem;overflow-wrap:break-word}

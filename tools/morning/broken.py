@@ -1,6 +1,7 @@
 #!/usr/bin/env python3
-"""broken.py [COUNT SEED]: breaks plain.c and expected.h in small ways, one at a time. Each broken program must be told by compare.py on the inputs of run.sh: COUNT
-lines of draw.py (8,000 and seed 1 unless told) and the inputs of malformed.py; each broken function of C by capi.c. What is not told is named, and the status is 1."""
+"""broken.py [COUNT SEED]: breaks plain.c and expected.h in small ways, one at a time. Each broken program must be told by compare.py on what run.sh gives it,
+COUNT lines of draw.py (8,000 and seed 1 unless told) and the inputs of malformed.py; each broken pair of C functions by capi.c. What is not told is named, and
+the status is 1."""
 import os
 import subprocess
 import sys
@@ -26,14 +27,14 @@ PROGRAMS = [
     ("15 is kept out", "head->number >= NUMBERS", "head->number >= NUMBERS - 1"),
     ("a number is one digit", "digit[line[0]] << 4 | ", ""),
     ("a refused line's counts are summed", "    if (head.number) return;\n", ""),
-    ("a refused line's zeros are summed", "    if (head.number) return;\n", "    if (head.number) zeros += head.zeros;\n    if (head.number) return;\n"),
-    ("a refused line's longest sum is counted", "    if (head.number) return;\n    zeros", "    longest[head.longest] += head.number != 0;\n    if (head.number) return;\n    zeros"),
+    ("a refused line's zeros are summed", "if (head.number) return;", "if (head.number) zeros += head.zeros;\n    if (head.number) return;"),
+    ("a refused line's longest sum is counted", "if (head.number) return;", "longest[head.longest] += head.number != 0;\n    if (head.number) return;"),
     ("backward steps are rungs", "backward += head.backward", "rungs += head.backward"),
     ("rungs are read where backward steps stand", "field(line + 10)", "field(line + 14)"),
     ("rungs are summed in 32 bits", "rungs += head.rungs", "rungs = (uint32_t)(rungs + head.rungs)"),
     ("backward steps are summed in 32 bits", "backward += head.backward", "backward = (uint32_t)(backward + head.backward)"),
     ("zeros are summed in 32 bits", "    longest[head.longest]++;", "    zeros = (uint32_t)zeros;\n    longest[head.longest]++;"),
-    ("lower case is let in", "digit[(uint8_t) \"0123456789ABCDEF\"[i]] = i;", "digit[(uint8_t) \"0123456789abcdef\"[i]] = digit[(uint8_t) \"0123456789ABCDEF\"[i]] = i;"),
+    ("lower case is let in in front", "9ABCDEF\"[i]] = i;", "9ABCDEF\"[i]] = digit[(uint8_t) \"0123456789abcdef\"[i]] = i;"),
     ("lower case is let in among the pairs", "(uint8_t)(at[i] - 'A') > 5", "(uint8_t)((at[i] & 0xDF) - 'A') > 5"),
     ("a colon is a digit", "- '0') > 9", "- '0') > 10"),
     ("a slash is a digit", "- '0') > 9", "- '/') > 10"),
@@ -78,11 +79,11 @@ FUNCTIONS = [
     ("a full page takes a line", ">= EXPECTED_MOST_LINES) return 15", "> EXPECTED_MOST_LINES) return 15"),
     ("a page is full one early", "page->cell[LINES] >=", "page->cell[LINES] + 1 >="),
     ("a page of 2^32 lines is an empty one", "page->cell[LINES] >=", "(uint32_t)page->cell[LINES] >="),
-    ("a line is counted and refused", "    if (page->cell[LINES] >= EXPECTED_MOST_LINES) return 15;", "    if (page->cell[LINES]++ >= EXPECTED_MOST_LINES) return 15;\n    page->cell[LINES]--;"),
+    ("a line is counted and refused", "LINES] >= EXPECTED_MOST_LINES) return 15", "LINES] >= EXPECTED_MOST_LINES) return 15 + 0 * page->cell[LINES]++"),
     ("joining stops one early", "lines + more > EXPECTED_MOST_LINES", "lines + more >= EXPECTED_MOST_LINES"),
     ("joining goes one beyond", "lines + more > EXPECTED_MOST_LINES", "lines + more > EXPECTED_MOST_LINES + (uint64_t)1"),
     ("joined lines go around", "lines > EXPECTED_MOST_LINES || more > EXPECTED_MOST_LINES || lines + more", "lines + more"),
-    ("a refused joining adds", "return 15;\n    for (int i = 0; i < CELLS; i++)", "return 15 * expected_line(into, 0, 0);\n    for (int i = 0; i < CELLS; i++)"),
+    ("a refused joining adds", "return 15;\n    for", "return 15 + 0 * into->cell[UNREADABLE]++;\n    for"),
     ("the cell in reserve is not joined", "i < CELLS; i++) expected", "i < CELLS; i += 1 + (i == RESERVED - 1)) expected"),
     ("numbers above 15 are not joined", "i < CELLS; i++) expected", "i < CELLS; i = i == 15 ? RESERVED : i + 1) expected"),
     ("the last cell is not joined", "i < CELLS; i++) expected", "i < CELLS - 1; i++) expected"),
@@ -143,6 +144,7 @@ def functions_told(folder, seed):
     """The broken functions that capi.c does not tell, after those that are not broken."""
     text = open(os.path.join(HERE, "expected.h"), encoding="ascii").read()
     whole = open(os.path.join(HERE, "capi.c"), encoding="ascii").read()
+    # before the folder has an expected.h of its own
     test = compiled(folder, "capi.o", whole, "-c", "-I", HERE, "-I", os.path.join(HERE, "..", "host"))
     for what, old, new in [("nothing", "CELLS = 58", "CELLS = 58"), *FUNCTIONS]:
         with open(os.path.join(folder, "expected.h"), "w", encoding="ascii") as file:
@@ -162,7 +164,8 @@ def main():
     for what in missed:
         print(f"broken.py: not told: {what}")
     tried = len(PROGRAMS) + len(FUNCTIONS)
-    print(f"broken.py: {len(PROGRAMS)} broken programs and {len(FUNCTIONS)} broken functions, {tried - len(missed)} told by {words[0]} drawn lines, seed {words[1]}, and the malformed ones")
+    told = f"{tried - len(missed)} told by {words[0]} drawn lines, seed {words[1]}, and the malformed ones"
+    print(f"broken.py: {len(PROGRAMS)} broken programs and {len(FUNCTIONS)} broken pairs of C functions, {told}")
     return 1 if missed else 0
 
 

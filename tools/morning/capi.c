@@ -1,7 +1,7 @@
-/* lichenoar_page_line and lichenoar_page_join of libcapi.a against expected.h. capi NIGHT COUNT SEED: every line of the file, in turn on one page and each on a
-   page of any bits; then COUNT rounds of bytes cut from the file, of three runs of its lines joined in every order, and of pages of any bits joined; then pages of
-   as many lines as a page takes. The number, every cell, the page joined from, and what lies around are compared. A failure is told and the program ends with 1;
-   the last line says how many calls there were. */
+/* lichenoar_page_line and lichenoar_page_join of libcapi.a against expected.h. capi NIGHT COUNT SEED: every line of the file, in turn on one page and each on
+   a page of any bits; then COUNT rounds: bytes cut from the file, three runs of its lines joined in every order, pages of any bits joined in every order, and
+   now and then pages of as many lines as a page takes. The number, every cell, the page joined from, and what lies around are compared. A failure is told and
+   the program ends with 1; the last line says how many calls there were. */
 #include "expected.h"
 #include "splitmix.h"
 #include <stdio.h>

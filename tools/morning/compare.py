@@ -1,8 +1,8 @@
 #!/usr/bin/env python3
-"""compare.py [--pieces] PLAIN INPUT.. -- PROGRAM WORD..: counts each input by count.py, runs plain.c's program and the morning program on it, and holds both to the
-count, byte for byte: standard output, standard error, and the status, which the morning program writes to descriptor 3. Of an input of many lines the readable
-and the unreadable are given once more alone, so that no two mistakes make up for each other. With --pieces an input comes through a pipe, a few bytes a read.
-Where something differs, shows the parts that do, and the first line at which they do."""
+"""compare.py [--pieces] PLAIN INPUT.. -- PROGRAM WORD..: counts each input by count.py, runs plain.c's program and the morning program on it, and holds both to
+the count, byte for byte: standard output, standard error, and the status, which the morning program writes to descriptor 3. Of an input of many lines the
+readable and the unreadable are given once more alone, so that no two mistakes make up for each other. With --pieces an input comes through a pipe, a few bytes
+a read. Where something differs, shows the parts that do, and the first line at which they do."""
 import array
 import fcntl
 import os

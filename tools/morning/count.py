@@ -1,7 +1,7 @@
 #!/usr/bin/env python3
-"""count.py [FILE]: the morning page of the lines of a file, or of standard input, counted by a regular expression and dictionaries: the page on standard output,
-refusal 15 on standard error, and the status 1 where there were lines beyond the limit. It is what run.sh holds the proved program to; compare.py, draw.py and
-times.py take the rule of a line from here."""
+"""count.py [FILE]: the morning page of the lines of a file, or of standard input, counted by a regular expression and dictionaries: the page on standard
+output, refusal 15 on standard error, and the status 1 where there were lines beyond the limit. It is what run.sh holds the proved program to; the other scripts
+take the rule of a line and the list of numbers from here."""
 import collections
 import re
 import sys
@@ -47,7 +47,9 @@ def counted(lines):
         else:
             kinds["answered"] += 1
             kinds["longest", int(found["longest"], 16)] += 1
-            sums.update(rungs=int(found["rungs"], 16), backward=int(found["backward"], 16), zeros=magnitude(found["zeros"]))
+            sums["rungs"] += int(found["rungs"], 16)
+            sums["backward"] += int(found["backward"], 16)
+            sums["zeros"] += magnitude(found["zeros"])
     return kinds, sums
 
 

@@ -1,7 +1,7 @@
 #!/usr/bin/env python3
-"""draw.py COUNT SEED: draws a night of COUNT lines onto standard output, the same for the same words. Two thirds are answer lines: answered, mostly of few pairs,
-and refused by every number, with fields of every size. The others are damaged, each in one way, or are no answer lines at all. Says on standard error how many
-were drawn of each kind, how many are readable by count.py, and fails where a kind was never drawn; from 3,000 lines on each is."""
+"""draw.py COUNT SEED: draws a night of COUNT lines onto standard output, the same for the same words. Two thirds are answer lines: answered, mostly of few
+pairs, and refused by every number, with fields of every size. The others are damaged, each in one way, or are no answer lines at all. Says on standard error
+how many were drawn of each kind, how many are readable by count.py, and fails where a kind was never drawn; from 3,000 lines on each is."""
 import collections
 import random
 import sys
@@ -173,7 +173,7 @@ class Night:
         return b"0" * self.below(140)
 
     def words(self):
-        return self.pick((b"answered 12", b"refused 15 0", b"frame 1: refusal 9", b"line 4294967296: refusal 15", b"request 3: refusal 13", b"\xef\xbb\xbf" + self.good()))
+        return self.pick((b"answered 12", b"refused 15 0", b"frame 1: refusal 9", b"line 2: refusal 15", b"unreadable 0", b"\xef\xbb\xbf" + self.good()))
 
     # ---- long, and rare
     def answered_with_many_pairs(self):

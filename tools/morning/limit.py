@@ -1,6 +1,6 @@
 #!/usr/bin/env python3
-"""limit.py PROGRAM WORD..: gives the morning program as many lines as a page takes, 4,294,967,295, and then more: that many exactly, most of them empty; and that
-many with answer lines behind, which are not counted and are told on standard error once. Holds it to what must come. Minutes long: not part of run.sh."""
+"""limit.py PROGRAM WORD..: gives the morning program as many lines as a page takes, 4,294,967,295, most of them empty, and in a second run answer lines behind
+them, which are not counted and of which one line on standard error tells; holds it to what must come. Minutes long: not part of run.sh."""
 import os
 import subprocess
 import sys
@@ -16,14 +16,17 @@ EMPTY = b"\n" * (1 << 20)
 
 
 def given(pipe, beyond):
-    """The lines, through a pipe."""
-    pipe.write((ANSWER + b"\n" + REFUSED + b"\n") * FEW)
+    """The lines, through a pipe; a program that does not read them all is told by what it gives."""
     left = count.MOST_LINES - 2 * FEW
-    while left:
-        pipe.write(EMPTY[:left])
-        left -= min(left, len(EMPTY))
-    pipe.write((ANSWER + b"\n") * beyond)
-    pipe.close()
+    try:
+        pipe.write((ANSWER + b"\n" + REFUSED + b"\n") * FEW)
+        while left:
+            pipe.write(EMPTY[:left])
+            left -= min(left, len(EMPTY))
+        pipe.write((ANSWER + b"\n") * beyond)
+        pipe.close()
+    except BrokenPipeError:
+        pass
 
 
 def ran(words, beyond):

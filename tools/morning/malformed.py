@@ -1,7 +1,7 @@
 #!/usr/bin/env python3
-"""malformed.py FOLDER: writes inputs for the morning program into the folder, one a file: lines of every length and some very long, answer lines with every byte
-at every place, every number, every count of pairs, lines cut by the end of a block at every place, inputs ended in every way, and bytes of no meaning. What each
-must give is had from count.py (compare.py). Says how many lines."""
+"""malformed.py FOLDER: writes inputs for the morning program into the folder, one a file: lines of every length and some very long, answer lines with every
+byte at every place, every number, every count of pairs, lines cut by the end of a block at every place, inputs ended in every way, and bytes of no meaning.
+What each must give is had from count.py (compare.py). Says how many lines."""
 import os
 import random
 import sys

@@ -1,8 +1,8 @@
 #!/usr/bin/env bash
-# run.sh [COUNT [SEED]]: holds target/bin/morning, and lichenoar_page_line and lichenoar_page_join of libcapi.a, to counts by other roads: count.py and plain.c for the
-# program, on COUNT lines drawn by draw.py (20,000 unless told; the seed is drawn too) and on the inputs of malformed.py, whole and in pieces: standard output,
-# standard error and status byte for byte; expected.h for the functions, for x86-64 and for this processor: on the same lines, and on pages of any bits, joined
-# in every order and up to the limit. broken.py shows that both can fail; limit.py gives the program all the lines that a page takes; times.py has the times.
+# run.sh [COUNT [SEED]]: holds target/bin/morning, and lichenoar_page_line and lichenoar_page_join of libcapi.a, to counts by other roads. The program to
+# count.py and plain.c, on COUNT lines drawn by draw.py (20,000 unless told; the seed is drawn too) and on the inputs of malformed.py, whole and in pieces:
+# standard output, standard error and status byte for byte. The functions, for x86-64 and for this processor, to expected.h: on the same lines, and on pages of
+# any bits, joined in every order and up to the limit. broken.py shows that both can fail; limit.py gives the program all the lines that a page takes.
 # Needs target/bin/morning and both archives (rt ci, tools/host/archive.sh).
 set -eu -o pipefail
 cd "$(dirname "$0")/../.."

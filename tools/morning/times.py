@@ -1,8 +1,8 @@
 #!/usr/bin/env python3
-"""times.py [ROUNDS [LINES [PROGRAM]]]: the time of the morning program beside plain.c compiled by cc -O2 and beside wc -l, on the same four nights of LINES lines
-(1,000,000 unless told) in files: answers of one pair, of two pairs, of mixed lengths, and refusals. In turns, the least of ROUNDS (9 unless told), the programs'
-start included; lines a second, and ours over theirs. The program is target/host/morning (tools/host/program.sh morning) unless told. The status is 1 where it
-takes more than BOUND times as long as plain.c."""
+"""times.py [ROUNDS [LINES [PROGRAM]]]: the time of the morning program beside plain.c compiled by cc -O2 and beside wc -l, on the same four nights of LINES
+lines (1,000,000 unless told) in files: answers of one pair, of two pairs, of mixed lengths, and refusals. In turns, the least of ROUNDS (9 unless told), the
+start of the programs included; lines a second, and ours over theirs. The program is target/host/morning (tools/host/program.sh morning) unless told. The status
+is 1 where it takes more than BOUND times as long as plain.c."""
 import os
 import random
 import subprocess
@@ -19,7 +19,8 @@ POOL = 4096
 
 def answer(drawn, pairs):
     """As K answers: few zeros, a sum of 8 to 18 terms."""
-    head = b"00%04X%04X%04X%04X" % (drawn.choice((0, 0, 0, drawn.randrange(pairs + 1))), drawn.randrange(8, 19), drawn.randrange(1512), drawn.choice((0, 17, 256)))
+    zeros = drawn.choice((0, 0, 0, drawn.randrange(pairs + 1)))
+    head = b"00%04X%04X%04X%04X" % (zeros, drawn.randrange(8, 19), drawn.randrange(1512), drawn.choice((0, 17, 256)))
     return head + drawn.randbytes(16 * pairs).hex().upper().encode("ascii")
 
 
@@ -48,8 +49,8 @@ def written(path, make, lines):
     drawn = random.Random(4)
     pool = [make(drawn) + b"\n" for _ in range(POOL)]
     with open(path, "wb") as file:
-        for _ in range(0, lines, POOL):
-            file.write(b"".join(drawn.choices(pool, k=min(POOL, lines - _))))
+        for at in range(0, lines, POOL):
+            file.write(b"".join(drawn.choices(pool, k=min(POOL, lines - at))))
     return os.path.getsize(path)
 
 
@@ -92,7 +93,7 @@ def main():
             if "ours" in took:
                 ratio = took["ours"] / took["plain.c"]
                 above |= ratio > BOUND
-                row += f"; ours {ratio:.2f} of plain.c's time{', ABOVE ' + str(BOUND) if ratio > BOUND else ''} and {took['ours'] / took['wc -l']:.1f} of wc -l's"
+                row += f"; ours over plain.c {ratio:.2f}{', ABOVE ' + str(BOUND) if ratio > BOUND else ''}, over wc -l {took['ours'] / took['wc -l']:.2f}"
             print(row, flush=True)
     return 1 if above else 0
 

@@ -71,6 +71,17 @@ added-twice a b c =
       ]
     ]
 
+pub added-over : (a b c : ℕ) → addedTo (addedTo a b) c ≡ addedTo a (addedTo b c)
+added-over a b c =
+    added-twice a b c
+    ∙ elim (added-is b c) [
+      | inl p ↦ ap (addedTo a) (sym (p .1))
+      | inr p ↦ elim (added-is a (b + c)) [
+        | inl q ↦ elim (added-is a (addedTo b c)) [ inl r ↦ omega (arith, p, q, r) | inr r ↦ omega (arith, p, q, r) ]
+        | inr q ↦ elim (added-is a (addedTo b c)) [ inl r ↦ omega (arith, p, q, r) | inr r ↦ omega (arith, p, q, r) ]
+      ]
+    ]
+
 pub added-comm : (a b : ℕ) → a ≤ mostCell → b ≤ mostCell → addedTo a b ≡ addedTo b a
 added-comm a b h k =
     elim (added-is a b) [
@@ -79,20 +90,15 @@ added-comm a b h k =
     ]
 
 -- ---- sums of n parts
-pub sum-same : (n : ℕ) (f g : ℕ → ℕ) → ((i : ℕ) → f i ≡ g i) → sumUpTo n f ≡ sumUpTo n g
+pub sum-few : (n : ℕ) (f g : ℕ → ℕ) → ((i : ℕ) → i < n → f i ≡ g i) → sumUpTo n f ≡ sumUpTo n g
 unfolding sumUpTo
-sum-same zero f g h = refl
-sum-same (suc n) f g h = let e = sum-same n f g h in let k = h n in omega arith
+sum-few zero f g h = refl
+sum-few (suc n) f g h = let e = sum-few n f g (λ i k. h i (omega arith)) in let k = h n (omega arith) in omega arith
 
 pub sum-zeros : (n : ℕ) → sumUpTo n (λ i. 0) ≡ 0
 unfolding sumUpTo
 sum-zeros zero = refl
 sum-zeros (suc n) = let e = sum-zeros n in omega arith
-
-pub sum-plus : (n : ℕ) (f g : ℕ → ℕ) → sumUpTo n (λ i. f i + g i) ≡ sumUpTo n f + sumUpTo n g
-unfolding sumUpTo
-sum-plus zero f g = refl
-sum-plus (suc n) f g = let e = sum-plus n f g in omega arith
 
 -- one of them is x and the others are 0
 sum-beyond : (n m x : ℕ) → n ≤ m → sumUpTo n (λ i. cond (eqb m i) x 0) ≡ 0

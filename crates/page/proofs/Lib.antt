@@ -3,3 +3,8 @@ pub mod CellFacts
 pub mod PartFacts
 pub mod SaidFacts
 pub mod StepFacts
+pub mod ListFacts
+pub mod SumFacts
+pub mod JoinFacts
+pub mod BoundFacts
+pub mod PageFacts

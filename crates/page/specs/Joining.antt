@@ -4,7 +4,7 @@ use mathlib.Core.Bool.{Bool, cond}
 use mathlib.Core.List.{List, [], _∷_}
 use Prim.Native.Nat.{ℕ, _+_, _-_}
 use lib.Dec.{leb}
-use lib.ListN.{getD}
+use lib.ListN.{getD, replicate}
 use Rattle.refusal.specs.Number.{numberOf}
 use Rattle.refusal.specs.declared.refusal.Refusal.the-variants.{Full}
 use Rattle.page.specs.Layout.{linesAt, cells, mostLines, mostCell}
@@ -16,6 +16,10 @@ addedTo a b = cond (leb b (mostCell - a)) (a + b) mostCell
 
 unfoldable pub joinedCells : List ℕ → List ℕ → List ℕ
 joinedCells a b = upTo cells (λ i. addedTo (getD a i 0) (getD b i 0))
+
+-- a page of zeros is the empty one
+abbrev pub emptyPage : List ℕ
+emptyPage = replicate cells 0
 
 abbrev pub linesIn : List ℕ → ℕ
 linesIn page = getD page linesAt 0

@@ -7,7 +7,9 @@ pub const NUMBERS: usize = 32;
 // behind these a cell in reserve, which no line adds to; then answered lines, by their longest sum
 pub const LONGEST_AT: usize = 33;
 
-// the longest sum of all
+// how many of these there are, and the longest sum of all
+pub const SUMS: usize = 20;
+
 pub const LONGEST: u32 = 19;
 
 // totals over the answered lines

@@ -15,11 +15,13 @@ use Rattle.io.specs.Counts.{clamped}
 use Rattle.splitting.specs.Lines.{lastOf, linesOf}
 use Rattle.splitting.specs.Cut.{leftBy, endedIn}
 use Rattle.splitting.specs.Count.{totalOf}
+use Rattle.splitting.specs.State.{statusOf}
+use Rattle.splitting.proofs.StateFacts.{status-zero}
 use Rattle.splitting.proofs.CutFacts.{left-append, ended-append, lines-parts}
 use Rattle.splitting.specs.declared.state.State.the-variants.{Going, Whole, Unwritten, Unread}
 use Rattle.sweep.specs.declared.turn.Turn.{Turn}
-use Rattle.sweep.specs.Turn.{mostHeld, Grown, endedAs, Passed, AfterBytes, Ended, AtEnd, Failed, TakenSome, TakenRead, OneRead, start, statusOf, isRefused, Served}
-use Rattle.sweep.proofs.TurnFacts.{grown-none, grown-as, grown-again, grown-shortened, status-zero, none-refused}
+use Rattle.sweep.specs.Turn.{mostHeld, Grown, endedAs, Passed, AfterBytes, Ended, AtEnd, Failed, TakenSome, TakenRead, OneRead, start, isRefused, Served}
+use Rattle.sweep.proofs.TurnFacts.{grown-none, grown-as, grown-again, grown-shortened, none-refused}
 
 -- ---- by what a read brought
 module _ (held : List ℕ) (t : Turn) (line : List ℕ) (r : Turn) where

@@ -1,38 +1,18 @@
 -- The text of a refusal from its five pieces, and a line's frames in the lent buffer. Assumes nothing.
-use mathlib.Core.Path.{_≡_, refl, ap, _∙_, subst}
+use mathlib.Core.Path.{_≡_, ap, _∙_}
 use mathlib.Core.List.{List, [], _∷_, _++_}
-use Prim.Native.Nat.{ℕ, zero, suc, _+_, _*_, _-_, _^_, _≤_, _<_}
-use native.Mathlib.Nat.{pow-suc}
+use Prim.Native.Nat.{ℕ, _+_, _-_, _≤_}
 use native.Mathlib.Omega.{arith}
 use lib.ListN.{length, take, drop}
 use lib.Seq.{take-at}
-use Rattle.io.specs.Digits.{Fewest}
+use Rattle.wording.specs.Decimal.{Numbered}
 use Rattle.splitting.specs.Lines.{newline}
 use Rattle.frame.specs.Over.{over, offered}
 use Rattle.frame.proofs.OverFacts.{offered-room}
 use Rattle.sweeping.specs.Line.{lineSwept, lineBytes}
 use Rattle.sweeping.proofs.LineFacts.{needed-is, bytes-most}
-use Rattle.sweep.specs.Text.{Numbered, requestWord, refusalWord, Told}
+use Rattle.sweep.specs.Text.{requestWord, refusalWord, Told}
 use Rattle.sweep.specs.Turn.{mostRoom}
-
--- ---- a number below 2^64 has at most 20 decimal digits
-tens : (k : ℕ) → 100000000000000000000 ≤ 10 ^ (k + 20)
-tens zero = omega arith
-tens (suc k) =
-    let more : suc k + 20 ≡ suc (k + 20) = omega arith in
-    let e : 10 ^ (suc k + 20) ≡ 10 ^ (k + 20) * 10 = ap (λ (n : ℕ). 10 ^ n) more ∙ pow-suc 10 (k + 20) in
-    let h = tens k in
-    omega arith
-
-places-by : (n r k : ℕ) → n < 18446744073709551616 → Fewest 10 1 n r → k ≡ r - 20 → r ≤ 20
-places-by n r zero h f e = omega arith
-places-by n r (suc k) h f e =
-    let less : r - 1 ≡ k + 20 = omega arith in
-    let g : 10 ^ (k + 20) ≤ n = subst (λ (m : ℕ). 10 ^ m ≤ n) less (f .2 (omega arith)) in
-    absurd (omega (arith, tens k, g, h))
-
-pub few-places : (n r : ℕ) → n < 18446744073709551616 → Fewest 10 1 n r → r ≤ 20
-few-places n r h f = places-by n r (r - 20) h f refl
 
 -- ---- the five pieces
 pub told :

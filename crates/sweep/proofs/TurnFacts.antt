@@ -1,11 +1,9 @@
 -- The counts of a line and of lines after others, and of lines that are shortened. Assumes nothing.
 use mathlib.Core.Path.{_≡_, refl, sym, ap, _∙_}
-use mathlib.Core.Bool.{Bool, true, false, cond}
 use mathlib.Core.List.{List, [], _∷_, _++_}
 use Prim.Native.Nat.{ℕ, _+_, _<_}
 use native.Mathlib.Omega.{arith}
-use borrow.Author.Tests.{eq-eqb, ne-eqb, eqb-true}
-use lib.Dec.{eqb}
+use borrow.Author.Tests.{eq-eqb, ne-eqb}
 use lib.ListN.{length, take}
 use Rattle.splitting.specs.Cut.{shortened}
 use Rattle.splitting.specs.Count.{totalOf, counted, Adds}
@@ -13,9 +11,8 @@ use Rattle.splitting.proofs.CountFacts.{total-append, total-shortened, adds-non
 use Rattle.sweeping.specs.Line.{lineSwept, lineBytes}
 use Rattle.sweeping.proofs.LineFacts.{refused-none, swept-kept, bytes-kept}
 use Rattle.splitting.specs.declared.state.State.{State}
-use Rattle.splitting.specs.declared.state.State.the-variants.{Going, Whole, Unwritten, Unread}
 use Rattle.sweep.specs.declared.turn.Turn.{Turn}
-use Rattle.sweep.specs.Turn.{mostHeld, isRequest, isRefused, frameBytes, Grown, endedAs, statusOf, start}
+use Rattle.sweep.specs.Turn.{mostHeld, isRequest, isRefused, frameBytes, Grown, endedAs, start}
 
 -- ---- no lines, and some lines after others
 pub grown-none : (t : Turn) → Grown [] t t
@@ -86,23 +83,6 @@ grown-shortened ls s t g =
       refused = g .refused ∙ ap (λ (n : ℕ). counted (s .refused + n)) (total-shortened isRefused mostHeld refused-kept ls);
       sent = g .sent ∙ ap (λ (n : ℕ). counted (s .sent + n)) (total-shortened frameBytes mostHeld (λ l. ap length (bytes-kept l)) ls);
     }
-
--- ---- told at the end
-pub status-clean : (s : State) (n : ℕ) → s ≡ Whole → n ≡ 0 → 48 ≡ statusOf s n
-status-clean s n e z = sym (ap (λ (x : State). statusOf x n) e ∙ simp (eq-eqb n 0 z))
-
-pub status-refused : (s : State) (n : ℕ) → s ≡ Whole → (n ≡ 0 → ⊥) → 49 ≡ statusOf s n
-status-refused s n e z = sym (ap (λ (x : State). statusOf x n) e ∙ simp (ne-eqb n 0 z))
-
-zero-clean : (n : ℕ) (b : Bool) → eqb n 0 ≡ b → _≡_ {A = ℕ} (cond b 48 49) 48 → n ≡ 0
-zero-clean n true k e = eqb-true n 0 k
-zero-clean n false k e = absurd (omega arith)
-
-pub status-zero : (s : State) (n : ℕ) → statusOf s n ≡ 48 → (s ≡ Whole) × (n ≡ 0)
-status-zero Whole n e = (refl, zero-clean n (eqb n 0) refl e)
-status-zero Going n e = absurd (omega arith)
-status-zero Unwritten n e = absurd (omega arith)
-status-zero Unread n e = absurd (omega arith)
 
 -- nothing counted, and nothing refused
 pub none-refused : (ls : List (List ℕ)) (r : Turn) → Grown ls start r → r .refused ≡ 0 → totalOf isRefused ls ≡ 0

@@ -2,20 +2,8 @@
 use mathlib.Core.Path.{_≡_}
 use mathlib.Core.List.{List, [], _∷_, _++_}
 use Prim.Native.Nat.{ℕ}
-use Rattle.io.specs.Digits.{digits, Fewest}
+use Rattle.wording.specs.Decimal.{Decimal}
 use Rattle.splitting.specs.Lines.{newline}
-
--- a number in as many decimal digits as it takes
-pub record Decimal (n : ℕ) (text : List ℕ) : Type 0 where
-  pub places : ℕ
-  pub fewest : Fewest 10 1 n places
-  pub spelled : text ≡ digits 10 places n
-
--- a text, and the number behind it
-pub record Numbered (n : ℕ) (before after : List ℕ) : Type 0 where
-  pub number : List ℕ
-  pub decimal : Decimal n number
-  pub spelled : after ≡ before ++ number
 
 -- `request `
 abbrev pub requestWord : List ℕ

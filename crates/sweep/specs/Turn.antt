@@ -10,6 +10,7 @@ use lib.ListN.{length, take}
 use Rattle.splitting.specs.Lines.{lastOf, linesOf}
 use Rattle.splitting.specs.Cut.{leftBy, leftIf, endedIn, closedIf}
 use Rattle.splitting.specs.Count.{totalOf, Adds}
+use Rattle.splitting.specs.State.{statusOf}
 use Rattle.sweeping.specs.Line.{lineSwept, lineBytes}
 use Rattle.splitting.specs.declared.state.State.{State}
 use Rattle.splitting.specs.declared.state.State.the-variants.{Going, Whole, Unwritten, Unread}
@@ -98,13 +99,6 @@ pub record OneRead (held : List ℕ) (before : Turn) (line : List ℕ) (after : 
   pub got : ℤ
   pub buffer : List ℕ
   pub taken : TakenRead got buffer held before line after
-
--- ---- told at the end: 0 where everything was read and written and nothing refused, and else 1, as a digit
-abbrev pub statusOf : State → ℕ → ℕ
-statusOf Whole refused = cond (eqb refused 0) 48 49
-statusOf Going refused = 49
-statusOf Unwritten refused = 49
-statusOf Unread refused = 49
 
 -- ---- the whole run: of what the reads brought, all lines, or those that were read to their ends; 0 is told where all were, and none was refused
 abbrev pub start : Turn

@@ -1,32 +1,11 @@
 // How the program ended, told: one line on standard error where something was lost, and the status, one digit and a newline, on descriptor 3
 // where that is open. A program of this language ends with status 0 always; whoever starts it turns the digit into a status.
-ghost use mathlib.Core.Path.{_≡_};
-ghost use Rattle.sweep.specs.Turn.{statusOf};
 use libc::STDERR_FILENO;
 use splitting::cut::NEWLINE;
 use splitting::state::State;
+use splitting::state::status;
 
 const STATUS_FILENO: i32 = 3;
-
-const ZERO: u8 = 48;
-
-const ONE: u8 = 49;
-
-fn status(state: State, refused: u64) -> u8
-    ensures { λ r. ⌜ r ≡ statusOf state refused ⌝ }
-{
-    match state {
-        State::Whole => {
-            if refused == 0 {
-                return ZERO;
-            }
-            ONE
-        }
-        State::Going => ONE,
-        State::Unwritten => ONE,
-        State::Unread => ONE,
-    }
-}
 
 pub fn tell(state: State, refused: u64) {
     match state {

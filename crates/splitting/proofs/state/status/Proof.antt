@@ -1,10 +1,10 @@
--- `sweep::telling::status` meets its contract: by the state. Assumes nothing.
+-- `splitting::state::status` meets its contract: by the state. Assumes nothing.
 use mathlib.Core.Path.{_≡_}
 use Rattle.splitting.specs.declared.state.State.the-variants.{Whole}
-use Rattle.sweep.proofs.TurnFacts.{status-clean, status-refused}
+use Rattle.splitting.proofs.StateFacts.{status-clean, status-refused}
 use borrow.Author.Needs.{needs}
-use Rattle.sweep.proofs.telling.status.Statement.{statement}
-use Rattle.sweep.proofs.telling.status.Tie as tie
+use Rattle.splitting.proofs.state.status.Statement.{statement}
+use Rattle.splitting.proofs.state.status.Tie as tie
 
 enum-told : tie.Need-enum-told
 enum-told c = search needs

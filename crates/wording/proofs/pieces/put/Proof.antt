@@ -1,4 +1,4 @@
--- `sweep::text::put` meets its contract: byte by byte. Assumes nothing.
+-- `wording::pieces::put` meets its contract: byte by byte. Assumes nothing.
 use mathlib.Core.Path.{_≡_, refl, sym, ap, _∙_}
 use mathlib.Core.List.{List, [], _∷_, _++_, append-assoc, append-nil}
 use Prim.Native.Nat.{ℕ, _+_, _-_, _≤_, _<_}
@@ -6,8 +6,8 @@ use native.Mathlib.Numerals.{add-one}
 use native.Mathlib.Omega.{arith}
 use lib.ListN.{length, take, set, getD, length-set}
 use lib.Seq.{take-suc, take-suc-set, take-all}
-use Rattle.sweep.proofs.text.put.Statement.{statement}
-use Rattle.sweep.proofs.text.put.Tie as tie
+use Rattle.wording.proofs.pieces.put.Statement.{statement}
+use Rattle.wording.proofs.pieces.put.Tie as tie
 
 one-more :
     (piece d text : List ℕ) (at i : ℕ) → i < length piece → at + i < length text → take (at + i) text ≡ take at d ++ take i piece →

@@ -1,13 +1,13 @@
--- `sweep::text::put_number` meets its contract: the digits behind the text. Assumes nothing.
+-- `wording::pieces::put_number` meets its contract: the digits behind the text. Assumes nothing.
 use mathlib.Core.Path.{ap, _∙_}
 use Prim.Native.Nat.{ℕ, _-_}
 use native.Mathlib.Nat.{sub-zero}
 use native.Mathlib.Omega.{arith}
 use lib.ListN.{take, length-take}
-use Rattle.sweep.proofs.TextFacts.{few-places}
+use Rattle.wording.proofs.DecimalFacts.{few-places}
 use borrow.Author.Needs.{needs}
-use Rattle.sweep.proofs.text.put_number.Statement.{statement}
-use Rattle.sweep.proofs.text.put_number.Tie as tie
+use Rattle.wording.proofs.pieces.put_number.Statement.{statement}
+use Rattle.wording.proofs.pieces.put_number.Tie as tie
 
 decimal-requires : tie.Need-decimal-requires
 decimal-requires c κs = search needs

@@ -1,0 +1,2 @@
+-- What the functions rest on, and that a number has one text.
+pub mod DecimalFacts

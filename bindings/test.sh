@@ -21,9 +21,17 @@ kit_run target/tests/c_example > target/tests/c_example.txt
 target/tests/host_c_example | cmp - target/tests/c_example.txt
 gcc -std=c99 "${strict[@]}" -o target/tests/host_c99_example bindings/c/example.c target/host/libcapi.a -lm
 target/tests/host_c99_example | cmp - target/tests/c_example.txt
+# another_layout COMPILER WORDS..: the header with a cell of a page less must not compile
+another_layout() {
+    if sed 's/longest\[20\]/longest[19]/' bindings/c/lichenoar.h | "$@" -fsyntax-only - 2> target/tests/layout; then fail "a page of another layout compiles: $*"; fi
+    grep -q lichenoar_page_layout target/tests/layout || { cat target/tests/layout; fail "another layout of a page is not what stops $*"; }
+}
+another_layout gcc -std=c99 -x c
+another_layout gcc -std=c11 -x c
 if command -v g++ > /dev/null; then
     g++ -std=c++17 "${strict[@]}" -o target/tests/host_cpp_example -x c++ bindings/c/example.c -x none target/host/libcapi.a -lm
     target/tests/host_cpp_example | cmp - target/tests/c_example.txt
+    another_layout g++ -std=c++17 -x c++
 else
     echo "no g++ here: the header was not tried from C++"
 fi

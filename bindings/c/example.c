@@ -1,5 +1,5 @@
 /* K of orders 0 and 1 at 1 + 0.5i, with the counts of the steps taken; an I of which the low orders are unfinished; a call that is refused; the frames of
-   a sweep. C99, and C++ too. */
+   a sweep; the page of a few answer lines. C99, and C++ too. */
 #include "lichenoar.h"
 #include <stdio.h>
 
@@ -34,6 +34,20 @@ static void sweep(void) {
     if (answer.number == 0 && answer.needed <= sizeof lines) printf("%.*s", (int)answer.needed, (const char *)lines);
 }
 
+/* What three lines of the frame program come to: an answer, a refusal by 4, and a line that was cut. */
+static void page(void) {
+    static const char text[] = "0000000010000000003FED02CD380D17703FC94EB2DB77969A3FF37EB3DB656B713FDC2EE896201B11\n040000000000000000\n04000000\n";
+    static lichenoar_page night; /* all zeros, since it is static: the empty page */
+    const char *line = text;
+    for (const char *at = text; *at != 0; at++) {
+        if (*at != '\n') continue;
+        if (lichenoar_page_line(&night, (const uint8_t *)line, (size_t)(at - line)) != 0) return; /* 15: it is full, and stands as it was */
+        line = at + 1;
+    }
+    printf("%u lines: %u answered, %u refused by 4, %u unreadable; %u with a longest sum of 16 terms\n", (unsigned)night.lines, (unsigned)night.numbers[0],
+           (unsigned)night.numbers[4], (unsigned)night.unreadable, (unsigned)night.longest[16]);
+}
+
 int main(void) {
     printf("lichenoar %s\n", LICHENOAR_VERSION);
     ask(0, 1, 0.5);
@@ -42,5 +56,6 @@ int main(void) {
     ask_i(368, 38.5);
     ask(0, 0, 0); /* K of zero */
     sweep();
+    page();
     return 0;
 }

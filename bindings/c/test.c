@@ -1,7 +1,7 @@
 /* The C interface against known answers. test KNOWN: layouts; every line of KNOWN (bindings/known.txt), bit for bit, in cells full of rubbish with a
    guard on each side; every length to 1,100; negative counts of I; sweeps, every byte of their frames and of what lies around, and each of their refusals;
-   the real routines as the header has them; the version. The last line says whether all was as stated; a failure names its line and the program ends
-   with 1. */
+   pages of the answers of KNOWN, of damaged lines and of every kind of line, joined, full, and of any bits, every cell and what lies around; the real
+   routines as the header has them; the version. The last line says whether all was as stated; a failure names its line and the program ends with 1. */
 #include "lichenoar.h"
 #include <stddef.h>
 #include <stdint.h>
@@ -19,6 +19,10 @@ _Static_assert(sizeof(lichenoar_log_gamma_answer) == 16 && _Alignof(lichenoar_lo
 _Static_assert(offsetof(lichenoar_log_gamma_answer, value) == 0 && offsetof(lichenoar_log_gamma_answer, number) == 8, "the record of log-gamma");
 _Static_assert(sizeof(lichenoar_sweep_answer) == 8 && _Alignof(lichenoar_sweep_answer) == 4, "the record of a sweep");
 _Static_assert(offsetof(lichenoar_sweep_answer, number) == 0 && offsetof(lichenoar_sweep_answer, needed) == 4, "the record of a sweep");
+_Static_assert(sizeof(lichenoar_page) == 464 && _Alignof(lichenoar_page) == 8, "a page");
+_Static_assert(offsetof(lichenoar_page, numbers) == 0 && offsetof(lichenoar_page, reserved) == 256 && offsetof(lichenoar_page, longest) == 264, "a page");
+_Static_assert(offsetof(lichenoar_page, rungs) == 424 && offsetof(lichenoar_page, backward) == 432 && offsetof(lichenoar_page, zeros) == 440, "a page");
+_Static_assert(offsetof(lichenoar_page, lines) == 448 && offsetof(lichenoar_page, unreadable) == 456, "a page");
 
 static int failed, line;
 
@@ -60,6 +64,8 @@ static void all_fixed(size_t length) {
     for (size_t i = 1; i <= length; i++) CHECK(bits(room[i]) == FIXED);
 }
 
+static void answered(const lichenoar_answer *a, size_t length);
+
 /* One line of KNOWN; the refusal's number. */
 static unsigned bessel(const char *text) {
     char kind;
@@ -77,6 +83,7 @@ static unsigned bessel(const char *text) {
         CHECK(bits(room[i]) == cell);
         used = more;
     }
+    answered(&a, length);
     return number;
 }
 
@@ -323,6 +330,215 @@ static void swept(void) {
     printf("sweeps, by every room and every refusal: %d calls\n", sweeps);
 }
 
+enum { CELLS = 58, RESERVED = 32, LONGEST = 33, RUNGS = 53, BACKWARD = 54, ZEROS = 55, LINES = 56, UNREADABLE = 57, HEAD = 18, PAIR = 32 };
+#define LARGEST 0xFFFFFFFFFFFFFFFFu
+#define MOST_LINES 0xFFFFFFFFu
+
+/* A page by its cells, in the order that the header has. */
+typedef struct {
+    uint64_t cell[CELLS];
+} cells;
+
+static unsigned long counted;
+
+static void plus(cells *c, unsigned at, uint64_t by) { c->cell[at] = c->cell[at] > LARGEST - by ? LARGEST : c->cell[at] + by; }
+
+static int same(const cells *a, const cells *b) {
+    int equal = 1;
+    for (int i = 0; i < CELLS; i++) equal &= a->cell[i] == b->cell[i];
+    return equal;
+}
+
+/* A line is made over the frames, with digits behind it. */
+static size_t line_of(unsigned number, unsigned zeros, unsigned sum, unsigned rungs, unsigned backward) {
+    for (size_t i = HEAD; i < HEAD + 514 * PAIR; i++) frames[i] = (uint8_t)"0123456789ABCDEF"[i % 16];
+    return put(put(put(put(put(0, 2, number), 4, zeros), 4, sum), 4, rungs), 4, backward);
+}
+
+/* The value of these digits of the line, 65536 where one is none. */
+static unsigned value_at(size_t at, int digits) {
+    unsigned x = 0, d;
+    for (; digits > 0; digits--, at++) {
+        for (d = 0; d < 16 && (uint8_t)"0123456789ABCDEF"[d] != frames[at]; d++) continue;
+        if (d == 16) return 65536;
+        x = 16 * x + d;
+    }
+    return x;
+}
+
+/* What the line is to add to a page. */
+static void expect(cells *c, size_t length) {
+    unsigned number = value_at(0, 2), zeros = value_at(2, 4), sum = value_at(6, 4), rungs = value_at(10, 4), backward = value_at(14, 4);
+    size_t more = length < HEAD ? 1 : length - HEAD;
+    int bad = number == 14 || number > 15 || zeros > 65535 || sum > 19 || rungs > 65535 || backward > 65535;
+    bad |= number == 0 ? length < HEAD || more == 0 || more % PAIR != 0 || more / PAIR > 512 : more != 0;
+    for (size_t i = HEAD; !bad && i < length; i++) bad = value_at(i, 1) > 15;
+    plus(c, LINES, 1);
+    plus(c, bad ? UNREADABLE : number, 1);
+    if (bad || number != 0) return;
+    plus(c, LONGEST + sum, 1);
+    plus(c, RUNGS, rungs);
+    plus(c, BACKWARD, backward);
+    plus(c, ZEROS, zeros < 32768 ? zeros : 65536 - zeros);
+}
+
+/* A page that is lent, between cells that are not. */
+static struct {
+    cells before;
+    lichenoar_page page;
+    cells behind;
+} around;
+
+static void lend(const cells *c) {
+    for (unsigned i = 0; i < CELLS; i++) around.before.cell[i] = around.behind.cell[i] = GUARD + i;
+    memcpy(&around.page, c, sizeof *c);
+}
+
+/* Whether the page has these cells now, and what lies around it is as it was. */
+static int left(const cells *want) {
+    cells got;
+    int guarded = 1;
+    memcpy(&got, &around.page, sizeof got);
+    for (unsigned i = 0; i < CELLS; i++) guarded &= around.before.cell[i] == GUARD + i && around.behind.cell[i] == GUARD + i;
+    return guarded && same(&got, want);
+}
+
+/* The line counted into a page of these cells, which are then the new ones. Behind it stands a digit, or a newline, which has no part in it. */
+static void count(cells *c, size_t length) {
+    uint32_t number = c->cell[LINES] >= MOST_LINES ? 15 : 0;
+    uint8_t behind = frames[length];
+    lend(c);
+    if (number == 0) expect(c, length);
+    if (counted++ % 2) frames[length] = '\n';
+    CHECK(lichenoar_page_line(&around.page, frames, length) == number);
+    CHECK(left(c));
+    frames[length] = behind;
+}
+
+/* Pages of these cells joined: the first are then the new ones, and the others stay. */
+static void join(cells *into, const cells *from) {
+    lichenoar_page other;
+    cells stays;
+    uint32_t number = into->cell[LINES] > MOST_LINES || from->cell[LINES] > MOST_LINES - into->cell[LINES] ? 15 : 0;
+    lend(into);
+    memcpy(&other, from, sizeof other);
+    for (unsigned i = 0; number == 0 && i < CELLS; i++) plus(into, i, from->cell[i]);
+    CHECK(lichenoar_page_join(&around.page, &other) == number);
+    memcpy(&stays, &other, sizeof stays);
+    CHECK(left(into) && same(&stays, from));
+}
+
+/* The answers of KNOWN, as the frame program writes them; and what they come to, by their records. */
+static cells night, records;
+
+static void answered(const lichenoar_answer *a, size_t length) {
+    size_t at = line_of(a->number, (unsigned)a->zeros, a->longest_sum, a->rungs, a->backward);
+    for (size_t i = 1; a->number == 0 && i <= length; i++) at = put(at, 16, bits(room[i]));
+    count(&night, at);
+    records.cell[a->number]++;
+    records.cell[LINES]++;
+    if (a->number != 0) return;
+    records.cell[LONGEST + a->longest_sum]++;
+    records.cell[RUNGS] += a->rungs;
+    records.cell[BACKWARD] += a->backward;
+    records.cell[ZEROS] += (unsigned)(a->zeros < 0 ? -a->zeros : a->zeros);
+}
+
+static void known_page(void) {
+    uint64_t read = 0, sums = 0;
+    CHECK(same(&night, &records) && night.cell[0] > 20 && night.cell[RUNGS] > 0 && night.cell[BACKWARD] > 0 && night.cell[ZEROS] > 0);
+    for (int i = 0; i < RESERVED; i++) read += night.cell[i];
+    for (int i = LONGEST; i < RUNGS; i++) sums += night.cell[i];
+    CHECK(read == night.cell[LINES] && sums == night.cell[0]);
+}
+
+/* Every byte of an answered and of a refused line changed into every other. */
+static void damaged(cells *c) {
+    for (unsigned number = 0; number <= 4; number += 4) {
+        size_t length = line_of(number, 0xFFFD, 12, 345, 67) + (number == 0 ? PAIR : 0);
+        for (size_t at = 0; at < length; at++) {
+            uint8_t kept = frames[at];
+            for (unsigned byte = 0; byte < 256; byte++) {
+                frames[at] = (uint8_t)byte;
+                count(c, length);
+            }
+            frames[at] = kept;
+        }
+    }
+}
+
+/* Every number; longest sums, zeros and other counts, and lengths, every one where it can matter; an empty line at no place. */
+static void every_line(cells *c) {
+    for (unsigned x = 0; x < 256; x++) {
+        size_t length = line_of(x, 1, 2, 3, 4);
+        count(c, length);
+        count(c, length + PAIR);
+    }
+    for (unsigned x = 0; x < 65536; x += x < 300 || (x > 32700 && x < 32800) || x > 65500 ? 1 : 31) {
+        count(c, line_of(0, 0, x, 0, 0) + PAIR);
+        count(c, line_of(0, x, 0, 65535 - x, x) + PAIR);
+        count(c, line_of(9, x, x % 21, x, x));
+    }
+    line_of(0, 0, 0, 0, 0);
+    for (size_t length = 0; length <= HEAD + 513 * PAIR; length += length < 400 || length > HEAD + 500 * PAIR ? 1 : 31) count(c, length);
+    lend(c);
+    plus(c, LINES, 1);
+    plus(c, UNREADABLE, 1);
+    CHECK(lichenoar_page_line(&around.page, 0, 0) == 0);
+    CHECK(left(c));
+    CHECK(c->cell[0] > 1000 && c->cell[9] > 100 && c->cell[14] == 0 && c->cell[15] > 0 && c->cell[RESERVED] == 0 && c->cell[UNREADABLE] > 1000);
+}
+
+/* A list in three parts, joined in several orders: each gives the page of the list. */
+static void joined(void) {
+    static const cells none;
+    cells thirds[3] = {none, none, none}, whole = none, a, b;
+    for (unsigned i = 0; i < 3000; i++) {
+        size_t length = line_of(i % 5 ? 0 : i % 17, i * 7, i % 21, i * 11, i * 13) + (i % 5 ? PAIR * (i % 4) : 0);
+        count(&thirds[i * i % 3 + i % 2], length);
+        count(&whole, length);
+    }
+    a = thirds[0], join(&a, &thirds[1]), join(&a, &thirds[2]);
+    CHECK(same(&a, &whole));
+    a = thirds[2], join(&a, &thirds[1]), join(&a, &thirds[0]);
+    CHECK(same(&a, &whole));
+    b = thirds[1], join(&b, &thirds[2]), a = thirds[0], join(&a, &b);
+    CHECK(same(&a, &whole));
+    a = none, join(&a, &whole), join(&a, &none);
+    CHECK(same(&a, &whole));
+}
+
+/* Pages near their limit and of any bits: 15 goes by the lines alone, and a cell that is full stays at the largest value. */
+static void full(void) {
+    static const uint64_t lines[] = {0, 1, MOST_LINES - 1, MOST_LINES, 0x100000000u, LARGEST - MOST_LINES + 1, LARGEST - 1, LARGEST};
+    static const uint64_t others[] = {0, 7, LARGEST - 400, LARGEST - 1, LARGEST};
+    size_t length = line_of(0, 32768, 19, 345, 67) + PAIR;
+    for (unsigned i = 0; i < 8 * 5; i++) {
+        cells c, into, from;
+        for (unsigned at = 0; at < CELLS; at++) c.cell[at] = others[i / 8];
+        c.cell[LINES] = lines[i % 8];
+        for (unsigned j = 0; j < 8 * 5; j++) {
+            for (unsigned at = 0; at < CELLS; at++) from.cell[at] = others[j / 8] ^ at;
+            from.cell[LINES] = lines[j % 8];
+            into = c, join(&into, &from);
+        }
+        count(&c, length);
+        count(&c, length - 1);
+        count(&c, 0);
+        count(&c, length);
+    }
+}
+
+static void pages(void) {
+    static cells c;
+    known_page();
+    damaged(&c);
+    every_line(&c);
+    joined();
+    full();
+    printf("pages, cell by cell: %lu lines counted\n", counted);
+}
+
 #define WORDS(x) #x
 #define SHOWN(x) WORDS(x)
 
@@ -360,6 +576,7 @@ int main(int argc, char **argv) {
     lengths();
     stops();
     swept();
+    pages();
     routines();
     version();
     printf("C interface: %s\n", failed ? "DIFFERENT" : "as stated");

@@ -358,7 +358,7 @@ def page_by_run(name):
     """The page of a night, what is told of the night, and the status of ./run morning. Wrong has that status with it where it is not 0."""
     data, ran, taken = run_over(name)
     status = ran if ran >= 0 else 1
-    shown = "" if name == "-" else visible(name)
+    shown = "" if name == "-" else visible(os.path.basename(name))
     try:
         if not data:
             raise Wrong(f"./run morning gave no page, and ended with {ran}")
@@ -402,8 +402,6 @@ def share(part, whole):
 
 
 def mean(total, answered):
-    if not answered:
-        return "none"
     found = hundredths(total, answered)
     return f"{found // 100:,}.{found % 100:02}" if found or not total else "<0.01"
 
@@ -494,7 +492,7 @@ def text_of(page, night, known, width):
         out += [f"  {UNREADABLE}"] if page.unreadable else []
         out += ["", *refused_text(page, known, width), "", *longest_text(page, width)]
         out += ["", *totals_text(page)] if page.answered else []
-    return [piece for line in out for piece in (folded(line, width) or [""])]
+    return [piece for line in out for piece in folded(line, width)]
 
 
 def painted(line):
@@ -554,10 +552,14 @@ def html_row(name, count, whole, largest, kind):
             f'<td class="bar" aria-hidden="true">{inner}</td></tr>')
 
 
-def html_table(first, bodies):
-    """A table of counts; each body is a list of rows."""
+def html_table(label, first, bodies):
+    """A table of counts, with a name for those who do not see it; each body is a list of rows."""
     head = f'<thead><tr><th scope="col">{first}</th><th scope="col">lines</th><th scope="col">share</th><td class="bar" aria-hidden="true"></td></tr></thead>'
-    return ["<table>", head, *(line for body in bodies for line in ("<tbody>", *body, "</tbody>")), "</table>"]
+    return [f'<table aria-label="{label}">', head, *(line for body in bodies for line in ("<tbody>", *body, "</tbody>")), "</table>"]
+
+
+def html_section(title, text, first, bodies):
+    return [f"<h2>{title}</h2>", f'<p class="soft">{text}</p>', *html_table(title, first, bodies)]
 
 
 def html_refused(page, known):
@@ -570,15 +572,14 @@ def html_refused(page, known):
         bodies.append([html_row(given, count, page.all_refused(), max(count for _, count in counts), "refused"),
                        f'<tr class="words"><td colspan="4">{words}</td></tr>'])
     absences = [f'<p class="soft">{escape(line)}</p>' for line in absent(page, known)]
-    return ["<h2>Refused, by number</h2>", '<p class="soft">share of the refused</p>', *html_table("refusal", bodies), *absences]
+    return html_section("Refused, by number", "share of the refused", "refusal", bodies) + absences
 
 
 def html_longest(page):
     if not page.answered:
         return ["<h2>Answered</h2>", "<p>none</p>"]
     body = [html_row(terms, count, page.answered, max(page.longest), "answered") for terms, count in enumerate(page.longest)]
-    return ["<h2>Answered, by the terms of the longest sum</h2>", '<p class="soft">share of the answered</p>', *html_table("terms", [body]),
-            f'<p class="soft">{escape(SUMS)}</p>']
+    return html_section("Answered, by the terms of the longest sum", "share of the answered", "terms", [body]) + [f'<p class="soft">{escape(SUMS)}</p>']
 
 
 def html_figure(text):
@@ -592,7 +593,7 @@ def html_totals(page):
     body = [f'<tr><th scope="row">{TOTALS[name]}</th>{html_figure(f"{total:,}")}{html_figure(mean(total, page.answered))}</tr>'
             for name, total in page.totals.items()]
     head = '<thead><tr><th scope="col">count</th><th scope="col">in all</th><th scope="col">mean a line</th></tr></thead>'
-    return ["<h2>Over the answered lines</h2>", '<table class="totals">', head, "<tbody>", *body, "</tbody>", "</table>"]
+    return ["<h2>Over the answered lines</h2>", '<table class="totals" aria-label="Over the answered lines">', head, "<tbody>", *body, "</tbody>", "</table>"]
 
 
 def html_of(page, night, known):
@@ -602,7 +603,7 @@ def html_of(page, night, known):
     out += [f'<p class="soft">{escape(night.name)}</p>'] if night.name else []
     out += [f'<p class="doubt">{escape(night.doubt)}</p>'] if night.doubt else []
     if page.lines():
-        out += html_table("outcome", [[html_row(name, count, page.lines(), page.lines(), name) for name, count in summary(page)]])
+        out += html_table("All lines", "outcome", [[html_row(name, count, page.lines(), page.lines(), name) for name, count in summary(page)]])
         out += [f'<p class="soft">{escape(UNREADABLE)}</p>'] if page.unreadable else []
         out += html_refused(page, known) + html_longest(page) + html_totals(page)
     return HEAD + "\n".join(out + ["</main>", "</body>", "</html>"]) + "\n"

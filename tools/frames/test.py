@@ -448,7 +448,7 @@ def short_lists(top, elsewhere):
         ("\n".join(line for line in whole.split("\n") if not line.startswith("9 ")), 0, (four, "refusal 9, not known here"), ""),
         (whole.replace("K of 0 is infinite", "nothing"), 0, (four.replace("K of 0 is infinite", "nothing"), nine), ""),
         (whole.replace("4 | Zero | K", "4 | Zero"), 1, ("refusal 4, not known here", "refusal 9, not known here"),
-         "show: the list of refusals cannot be read: docs/refusals.txt:9: not five fields with ' | ' between them\n"),
+         "show: the list of refusals cannot be read: docs/refusals.txt:10: not five fields with ' | ' between them\n"),
         ("", 1, ("refusal 4, not known here", "refusal 9, not known here"), "show: the list of refusals cannot be read: docs/refusals.txt has no entry\n"),
     ):
         with open(path, "w", encoding="utf-8") as file:

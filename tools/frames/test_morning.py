@@ -1,6 +1,7 @@
 #!/usr/bin/env python3
-"""Tests morning.py, without the prover: pages made here by what is shown of them, as text and as HTML; pages broken in every way; words; nights over a ./run made
-up for each case, and how far they are; what cannot be read or written. With --program also nights over ./run morning itself, against a page counted here."""
+"""Tests morning.py, without the prover: pages made here by what is shown of them, as text and as HTML; pages broken in every way; words;
+nights over a ./run made up for each case, and how far they are; what cannot be read or written. With --program also nights over ./run
+morning itself, against a page that is counted here."""
 import fcntl
 import os
 import pty
@@ -16,6 +17,7 @@ import tempfile
 import termios
 import threading
 import time
+from concurrent.futures import ThreadPoolExecutor
 from contextlib import contextmanager
 from fractions import Fraction
 from html.parser import HTMLParser
@@ -28,6 +30,7 @@ HERE = os.path.dirname(os.path.abspath(__file__))
 TOP = os.path.dirname(os.path.dirname(HERE))
 COUNTS, TOTALS = 2 ** 32 - 1, 2 ** 64 - 1
 POLICY = """<meta http-equiv="Content-Security-Policy" content="default-src 'none'; style-src 'unsafe-inline'">"""
+OF_A_NIGHT = "line 1: it is a line of a night and not of its page: pass the night through ./run morning, or name it behind --night"
 SUMS = "  0: no sum was taken. docs/CHOOSING.md says what the counts tell"
 LIST = [frame.listed.Listed(*one) for one in (
     (1, "Length", ("K",), "too many orders", "ask for fewer"),
@@ -117,11 +120,12 @@ def whole_pages():
     same(showing(paged()), (0, "morning page: no lines\n", ""), "no lines")
     one = dict(longest=[1] + 19 * [0], totals=(0, 1, 0))
     status, out, _ = showing(paged(**one))
-    same((status, out.split("\n")[:7]), (0, ["morning page: 1 line", f"  answered    1  100.00 %  {53 * '#'}", "  refused     0    0.00 %", "  unreadable  0    0.00 %",
-                                             "", "refused: none", ""]), "one line")
+    wanted = ["morning page: 1 line", f"  answered    1  100.00 %  {53 * '#'}", "  refused     0    0.00 %", "  unreadable  0    0.00 %", "", "refused: none"]
+    same((status, out.split("\n")[:6]), (0, wanted), "one line")
     for part, whole in ((1, 10 ** 6), (1, 19999), (1, 20000), (1, 20001), (1, 3), (2, 3), (5, 1000), (1, 16)):
         status, out, _ = showing(paged(longest=[part] + 19 * [0], unreadable=whole - part))
-        same((status, [row[3] for row in map(ROW.fullmatch, out.split("\n")[1:4])]), (0, [percent(part, whole), "0.00 %", percent(whole - part, whole)]), (part, whole))
+        shares = [row[3] for row in map(ROW.fullmatch, out.split("\n")[1:4])]
+        same((status, shares), (0, [percent(part, whole), "0.00 %", percent(whole - part, whole)]), (part, whole))
     same([percent(*one) for one in ((1, 20001), (1, 20000), (20000, 20001), (19999, 20000), (1, 1), (0, 1))],
          ["<0.01 %", "0.01 %", ">99.99 %", ">99.99 %", "100.00 %", "0.00 %"], "the test's own shares")
     status, out, _ = showing(paged(refused=[(1, 3)]))
@@ -157,8 +161,10 @@ def read_back(text, width, made):
     same([int(found[2].replace(",", "")) for found in totals], list(made["totals"]) if answered else [], made)
     for found, total in zip(totals, made["totals"]):
         mean = Fraction(total, answered)
-        close = 0 < mean < Fraction(1, 200) if found[3] == "<0.01" else abs(Fraction(found[3].replace(",", "")) - mean) <= Fraction(1, 200) and (found[3] != "0.00" or not total)
-        same(close, True, (found[0], answered))
+        if found[3] == "<0.01":
+            same(0 < mean < Fraction(1, 200), True, (found[0], answered))
+        else:
+            same((abs(Fraction(found[3].replace(",", "")) - mean) <= Fraction(1, 200), found[3] == "0.00"), (True, not total), (found[0], answered))
 
 
 def drawn_page(drawn):
@@ -167,11 +173,10 @@ def drawn_page(drawn):
     cuts = sorted(drawn.choice((0, room, drawn.randrange(room + 1))) for _ in range(28))
     parts = [other - one for one, other in zip([0] + cuts, cuts + [room])]
     drawn.shuffle(parts)
-    given = sorted(drawn.sample(range(1, 256), 4) + [5, 8])
-    given = sorted(set(given))
+    given = sorted({*drawn.sample(range(1, 256), 4), 5, 8})
     most = TOTALS if sum(parts[:20]) else 0
-    return dict(longest=parts[:20], refused=list(zip(given, parts[20:])), totals=[drawn.choice((0, min(1, most), most, drawn.randrange(most + 1))) for _ in range(3)],
-                unreadable=parts[28])
+    totals = [drawn.choice((0, min(1, most), most, drawn.randrange(most + 1))) for _ in range(3)]
+    return dict(longest=parts[:20], refused=list(zip(given, parts[20:])), totals=totals, unreadable=parts[28])
 
 
 def drawn_pages(folder):
@@ -217,7 +222,7 @@ def bad_numbers(base):
             if word.startswith(f"{name} "):
                 said = f"{name}: {word[len(name) + 1:]} is no number as a page has them"
             else:
-                wanted = "refused K" if name == "refused 1" or name.startswith("refused") and word.startswith("refused") else name if name[:7] != "refused" else "longest 0"
+                wanted = name if not name.startswith("refused") else "refused K" if name == "refused 1" or word.startswith("refused") else "longest 0"
                 said = f"{wanted} is to stand here, and there is: {frame.visible(word)}"
             bad_page(base[:at] + [word] + base[at + 1:], f"line {at + 1}: {said}")
 
@@ -237,10 +242,10 @@ def bad_orders(base):
             said = f"{next_name} is to stand here, and there is: {line}" if follower else f"text behind the page: {line}"
             bad_page(base[:at + 1] + base[at:], f"line {at + 2}: {said}")
         if at:
-            wanted = "refused K" if at <= 1 or names[at][:7] == "refused" and at == 1 else names[at] if names[at][:7] != "refused" else "longest 0"
+            wanted = "refused K" if at == 1 else names[at] if names[at][:7] != "refused" else "longest 0"
             bad_page(base[:at], f"line {at + 1}: {wanted} is missing: the page ends before it")
             bad_page(joined(base[:at]) + line[:-1].encode(), f"line {at + 1}: it has no newline, so that a part may be cut off: {line[:-1]}")
-            bad_page(joined(base[:at]) + line.encode(), *[f"line {at + 1}: it has no newline, so that a part may be cut off: {line}"])
+            bad_page(joined(base[:at]) + line.encode(), f"line {at + 1}: it has no newline, so that a part may be cut off: {line}")
     bad_page([base[0]] + base[5:], "line 2: refused K is to stand here, and there is: longest 0 3")
     bad_page([base[0], base[2], base[1]] + base[3:], "line 3: refused 1 does not come after refused 5")
     for number in ("256", "300", "999"):
@@ -280,9 +285,8 @@ def bad_sums(base):
     bad_page(b"answered", "line 1: it has no newline, so that a part may be cut off: answered")
     bad_page(b"\xff\xfe\n", "line 1: answered is to stand here, and there is: \\xff\\xfe")
     bad_page(b"\x1b[2Janswered 5\n", "line 1: answered is to stand here, and there is: \\x1b[2Janswered 5")
-    night = "line 1: it is a line of a night and not of its page: pass the night through ./run morning, or name it behind --night"
     for line in (18 * b"0", b"0" * 50, b"04" + 16 * b"0", b"0" * (18 + 512 * 32)):
-        bad_page((line + b"\n") * 2000, night)
+        bad_page((line + b"\n") * 2000, OF_A_NIGHT)
 
 
 def drawn_damage():
@@ -308,9 +312,8 @@ def bad_words(folder):
         file.write("040000000000000000\n")
     os.symlink(path, path + " by a link")
     for words, text in (
-        (["x"], "x is no word of morning; see --help"), ([""], "an empty word is no word of morning; see --help"), (["-x"], "-x is no word of morning; see --help"),
-        (["--htm", "a"], "--htm is no word of morning; see --help"), (["--html=a"], "--html=a is no word of morning; see --help"), (["-"], "- is no word of morning; see --help"),
-        (["--html", path, "x"], "x is no word of morning; see --help"), (["a\nb"], "a\\nb is no word of morning; see --help"), (["\udcff"], "\\udcff is no word of morning; see --help"),
+        *(([*before, word], f"{frame.visible(word)} is no word of morning; see --help") for before in ([], ["--html", path])
+          for word in ("x", "", "-", "-x", "--", "--htm", "--html=a", "--HTML", "a\nb", "\udcff", "x" * 80)),
         (["--html"], "--html: the file behind it is missing; see --help"), (["--html", "a", "--night"], "--night: the file behind it is missing; see --help"),
         (["--html", "a", "--html", "b"], "--html stands twice; see --help"), (["--night", "a", "--night", "a"], "--night stands twice; see --help"),
         (["--html", ""], "--html: an empty word is no name of a file; write ./ before it if it is one"),
@@ -378,10 +381,11 @@ class Seen(HTMLParser):
 def html_read_back(text, made):
     """An HTML page against the numbers that it was made of: its tables, its bars, what makes it fit a phone and every reader; nothing from elsewhere."""
     found = Seen(text)
-    names = {(tag, name): value for tag, name, value in found.attributes}
-    same((found.doctype, names["html", "lang"], names["meta", "charset"]), ("DOCTYPE html", "en", "utf-8"), "the head")
+    same((found.doctype, found.attributes[:2]), ("DOCTYPE html", [("html", "lang", "en"), ("meta", "charset", "utf-8")]), "the head")
     same(("meta", "content", "width=device-width, initial-scale=1") in found.attributes, True, "the viewport")
-    same({name for _, name, _ in found.attributes} <= {"lang", "charset", "http-equiv", "name", "content", "class", "style", "scope", "colspan", "aria-hidden"}, True, "attributes")
+    names = {"lang", "charset", "http-equiv", "name", "content", "class", "style", "scope", "colspan", "aria-hidden", "aria-label"}
+    same({name for _, name, _ in found.attributes} - names, set(), "attributes")
+    same(len({value for _, name, value in found.attributes if name == "aria-label"}), text.count("<table"), "each table has a name of its own")
     same(text.count(POLICY), 1, "what the page may load: nothing")
     bare = text.replace(POLICY, "").lower()
     same([word for word in ("src", "href", "script", "url(", "@import", "http:", "https:", "//", "data:", "expression") if word in bare], [], "elsewhere")
@@ -431,8 +435,8 @@ def html_pages(folder):
     with open(path, encoding="utf-8") as file:
         text = file.read()
     html_read_back(text, WHOLE)
-    for number in ("2,020,046", "18,904,417", "9.45", "21,347,086", "10.67", "1,204", "&lt;0.01<", "too &lt;large&gt; &amp; odd", "did not occur: 1, 14", "not on this page: 12",
-                   "refusal 9, not known here", morning.UNREADABLE.replace("'", "&#x27;")):
+    for number in ("2,020,046", "18,904,417", "9.45", "21,347,086", "10.67", "1,204", "&lt;0.01<", "too &lt;large&gt; &amp; odd", "did not occur: 1, 14",
+                   "not on this page: 12", "refusal 9, not known here", morning.UNREADABLE.replace("'", "&#x27;")):
         same(number in text, True, number)
     same(showing(paged(), "--html", path)[0], 0, "no lines")
     with open(path, encoding="utf-8") as file:
@@ -504,24 +508,25 @@ def night_shown(name, doubt=""):
 
 def nights(stub):
     gives = f"cat '{stub.page}'"
-    named = night_shown(frame.visible(stub.night))
+    named = night_shown("a night")
     made_up(stub.folder, f"[ \"$*\" = morning ] && cmp - '{stub.night}' && {gives}")
     same(told(morning.main, ["--night", stub.night]), (0, named, ""), "a night, passed on as it is")
-    same(stub.over(f"cat > /dev/null; echo run: proved 1 of 31 >&2; {gives}; echo the end >&2; printf rest >&2")[2], "run: proved 1 of 31\nthe end\nrest\n", "what it says")
+    said = stub.over(f"cat > /dev/null; echo run: proved 1 of 31 >&2; {gives}; echo the end >&2; printf rest >&2")[2]
+    same(said, "run: proved 1 of 31\nthe end\nrest\n", "what it says")
     same(stub.over(f"cat > /dev/null; printf 'a\\377\\033b\\n' >&2; {gives}")[::2], (0, "a\\xff\x1bb\n"), "bytes that are no characters")
     for ran, status in ((1, 1), (2, 2), (7, 7)):
         told_so = stub.over(f"cat > /dev/null; {gives}; echo 'line 4294967296: refusal 15' >&2; exit {ran}")
         doubt = f"perhaps not the whole night: ./run morning ended with {ran}"
-        same(told_so, (status, night_shown(frame.visible(stub.night), doubt), "line 4294967296: refusal 15\n"), "the page of the first lines")
-        same(stub.over(f"echo no such program >&2; exit {ran}"), (status, "", f"no such program\nmorning: ./run morning gave no page, and ended with {ran}\n"), "no page")
-        same(stub.over(f"cat > /dev/null; head -n 3 '{stub.page}'; exit {ran}"),
-             (status, "", "morning: what ./run morning gave is no page: line 4: refused 8 is missing: the page ends before it\n".replace("refused 8", "longest 0")), "half a page")
+        same(told_so, (status, night_shown("a night", doubt), "line 4294967296: refusal 15\n"), "the page of the first lines")
+        said = f"no such program\nmorning: ./run morning gave no page, and ended with {ran}\n"
+        same(stub.over(f"echo no such program >&2; exit {ran}"), (status, "", said), "no page")
+        said = "morning: what ./run morning gave is no page: line 4: longest 0 is missing: the page ends before it\n"
+        same(stub.over(f"cat > /dev/null; head -n 3 '{stub.page}'; exit {ran}"), (status, "", said), "half a page")
     same(stub.over("cat > /dev/null"), (1, "", "morning: ./run morning gave no page, and ended with 0\n"), "nothing")
     same(stub.over("cat > /dev/null; kill -9 $$"), (1, "", "morning: ./run morning gave no page, and ended with -9\n"), "killed")
     same(stub.over(f"cat > /dev/null; {gives}; kill -9 $$")[::2], (1, ""), "a page, and killed")
-    same(stub.over("cat"), (1, "", "morning: what ./run morning gave is no page: line 1: it is a line of a night and not of its page: pass the night through ./run morning, "
-                            "or name it behind --night\n"), "the night itself")
-    same(stub.over(f"cat > /dev/null; head -c 300000 /dev/zero | tr '\\0' x >&2; {gives}; head -c 300000 /dev/zero")[::2][0], 1, "much of everything")
+    same(stub.over("cat"), (1, "", f"morning: what ./run morning gave is no page: {OF_A_NIGHT}\n"), "the night itself")
+    same(stub.over(f"cat > /dev/null; head -c 300000 /dev/zero | tr '\\0' x >&2; {gives}; head -c 300000 /dev/zero")[0], 1, "much of everything")
     same(stub.over(f"exec 2>&-; cat > /dev/null; {gives}")[0], 0, "standard error closed early")
     os.chmod(morning.RUN, 0o644)
     same(told(morning.main, ["--night", stub.night]), (1, "", "morning: ./run morning cannot be run: Permission denied\n"), "no program")
@@ -538,7 +543,8 @@ def large_nights(stub):
             file.write(drawn.randbytes(500001) + b"\n" * 499999)
     gives = f"cat '{stub.page}'"
     same(stub.over(f"cmp - '{large}' && {gives}", night=large)[::2], (0, ""), "12 MB")
-    same(stub.over(f"head -c 1000000 > /dev/null; {gives}", night=large), (1, "", "morning: ./run morning ended with 0 before it had read the whole night\n"), "part of it")
+    said = "morning: ./run morning ended with 0 before it had read the whole night\n"
+    same(stub.over(f"head -c 1000000 > /dev/null; {gives}", night=large), (1, "", said), "part of it")
     same(stub.over(f"{gives}; exec 2>&-; exec <&-; sleep 0.1; exit 1", night=large)[::2], (1, ""), "none of it, and a status")
     same(stub.over("exit 2", night=large), (2, "", "morning: ./run morning gave no page, and ended with 2\n"), "none of it")
     pipe = os.path.join(stub.folder, "pipe")
@@ -556,22 +562,25 @@ def large_nights(stub):
         pass
     with open(stub.page + " of none", "wb") as file:
         file.write(joined(paged()))
-    same(stub.over(f"cat > /dev/null; cat '{stub.page} of none'", night=empty)[:2], (0, f"morning page: no lines, of {frame.visible(empty)}\n"), "an empty night")
+    shown = "morning page: no lines, of empty\n"
+    same(stub.over(f"cat > /dev/null; cat '{stub.page} of none'", night=empty)[:2], (0, shown), "an empty night")
     os.remove(large)
 
 
 def unreadable_nights(stub):
     made_up(stub.folder, "echo it was started >&2; cat > /dev/null")
-    for name, said in ((os.path.join(stub.folder, "none"), "No such file or directory"), (stub.folder, "it is a directory"), (stub.night + "/x", "Not a directory")):
+    for name, said in ((stub.folder + "/none", "No such file or directory"), (stub.folder, "it is a directory"), (stub.night + "/x", "Not a directory")):
         same(told(morning.main, ["--night", name]), (1, "", f"morning: {frame.visible(name)} cannot be read: {said}\n"), name)
     place = os.path.join(stub.folder, "no", "x.html")
-    same(told(morning.main, ["--night", stub.night, "--html", place]), (1, "", f"morning: {frame.visible(place)} cannot be written: its folder is not there\n"), "before the night")
+    said = f"morning: {frame.visible(place)} cannot be written: its folder is not there\n"
+    same(told(morning.main, ["--night", stub.night, "--html", place]), (1, "", said), "before the night")
     kept, os.read = os.read, failing(os.read)
     try:
         status, out, err = told(morning.main, ["--night", stub.night])
     finally:
         os.read = kept
-    same((status, out, err.split("\n")[-2]), (1, "", f"morning: {frame.visible(stub.night)} cannot be read to its end: Input/output error"), "a read that fails")
+    said = f"morning: {frame.visible(stub.night)} cannot be read to its end: Input/output error"
+    same((status, out, err.split("\n")[-2]), (1, "", said), "a read that fails")
 
 
 def failing(read):
@@ -595,15 +604,8 @@ def sooner(**seconds):
         vars(morning).update(kept)
 
 
-def terminal(columns):
-    """A terminal so wide: the side of a program, and of whoever looks at it."""
-    master, slave = pty.openpty()
-    fcntl.ioctl(slave, termios.TIOCSWINSZ, struct.pack("HHHH", 24, columns, 0, 0))
-    return master, slave
-
-
 def looked_at(master):
-    """What was written to a terminal whose other side is closed."""
+    """What is written to a terminal, until it is closed."""
     found = b""
     while True:
         try:
@@ -616,6 +618,19 @@ def looked_at(master):
         found += data
 
 
+@contextmanager
+def terminal(columns):
+    """A terminal so wide, and a list that has what was written to it when it is closed; read all the while, since it holds little."""
+    master, slave = pty.openpty()
+    fcntl.ioctl(slave, termios.TIOCSWINSZ, struct.pack("HHHH", 24, columns, 0, 0))
+    found = []
+    reader = threading.Thread(target=lambda: found.append(looked_at(master)))
+    reader.start()
+    with open(slave, "w", encoding="utf-8") as stream:
+        yield stream, found
+    reader.join()
+
+
 SO_FAR = re.compile(r"morning: [0-9.]+ [MG]B of [0-9.]+ [MG]B, ([0-9]+) %, [0-9]+ s(, [0-9]+ MB/s)?(, [0-9]+ s left)?(, ~[0-9.]+ M lines)?")
 
 
@@ -626,11 +641,10 @@ def progress_on_a_terminal(stub):
         file.write(b"040000000000000000\n" * 300000)
     for columns, seconds in ((100, 0.25), (30, 0.12)):
         made_up(stub.folder, f"sleep {seconds}; echo proved >&2; head -c 2000000 > /dev/null; sleep {seconds - 0.1}; cat > /dev/null; cat '{stub.page}'")
-        master, slave = terminal(columns)
         began = time.monotonic()
-        with streams() as (out, _), open(slave, "w", encoding="utf-8") as sys.stderr, sooner(OFTEN=0.1):
-            same((morning.main(["--night", night]), out.getvalue().decode()), (0, night_shown(frame.visible(night))), "shown")
-        text = looked_at(master)
+        with streams() as (out, _), terminal(columns) as (sys.stderr, found), sooner(OFTEN=0.1):
+            same((morning.main(["--night", night]), out.getvalue().decode()), (0, night_shown("longer")), "shown")
+        text, = found
         most = (time.monotonic() - began) / 0.1 + 2
         parts = [one.rstrip(" ") for one in re.split("[\r\n]+", text)]
         same((text.count("\n"), "proved" in parts, text.endswith("\r\n"), max(map(len, parts)) < columns), (2, True, True, True), text)
@@ -644,7 +658,7 @@ def progress_on_a_terminal(stub):
 
 def progress_elsewhere(stub):
     """A line now and then: none for a night that takes less; sooner here."""
-    made_up(stub.folder, f"sleep 0.2; cat > /dev/null; cat '{stub.page}'")
+    made_up(stub.folder, f"sleep 0.15; cat > /dev/null; cat '{stub.page}'")
     same(told(morning.main, ["--night", stub.night])[2], "", "a short night")
     same((morning.SELDOM, morning.OFTEN), (10.0, 0.25), "how often")
     began = time.monotonic()
@@ -687,55 +701,56 @@ def called(top, elsewhere):
     flat = " ".join(out.split())
     same((status, err, f"refusal {given} 3 100.00 %" in flat, f"{entry.words} to do: {entry.remedy} " in flat), (0, "", True, True), "the list's own words")
     os.symlink(os.path.join(top, "tools", "frames", "morning.py"), os.path.join(elsewhere, "linked"))
-    for words in ("--night night < /", "--night night <&-", "--night - < night", "--night - < <(cat night)"):
-        shown = out if "- <" in words else out.replace("3 lines", "3 lines, of night", 1)
-        same(shell(f"./linked {words}", elsewhere), (0, shown, ""), words)
-    closed = "morning: standard input cannot be read: it is closed or a directory\n"
-    for words in ("< /", "<&-", "--night - < /", "--night - <&-"):
-        same(shell(f"./linked {words}", elsewhere), (1, "", closed), words)
-    for words in ("--night - --html night < night", "--html page < page"):
-        same(shell(f"./linked {words}", elsewhere), (2, "", "morning: --html would write over what is read; name another file\n"), words)
-    full, shut = (f"morning: standard output cannot be written: {why}\n" for why in ("No space left on device", "it is closed"))
-    for words in ("--night night", "--help", "--html x.html < page"):
-        same(shell(f"{command} {words} > /dev/full", elsewhere), (1, "", full), words)
-    same(os.path.exists(os.path.join(elsewhere, "x.html")), True, "the HTML is there all the same")
-    same(shell(f"{command} --night night >&-", elsewhere), (1, "", shut), "closed")
-    same(shell(f"{command} --night night 2>&- > /dev/full", elsewhere), (1, "", ""), "closed, and full")
-    same(shell(f"{{ sleep 0.2; {command} < page; echo $? >&2; }} | true", elsewhere), (0, "", "morning: standard output cannot be written: Broken pipe\n1\n"), "nobody reads")
-    same(shell(f"LC_ALL=C PYTHONIOENCODING=ascii {command} < page", elsewhere), (0, out, ""), "a terminal without other characters")
+    cases = [(f"./linked {words}", (0, out if "- <" in words else out.replace("3 lines", "3 lines, of night", 1), ""))
+             for words in ("--night night < /", "--night night <&-", "--night - < night", "--night - < <(cat night)")]
+    unread = "morning: standard input cannot be read: it is closed or a directory\n"
+    cases += [(f"./linked {words}", (1, "", unread)) for words in ("< /", "<&-", "--night - < /", "--night - <&-")]
+    over = "morning: --html would write over what is read; name another file\n"
+    cases += [(f"./linked {words}", (2, "", over)) for words in ("--night - --html night < night", "--html page < page")]
+    full, shut, broken = (f"morning: standard output cannot be written: {why}\n" for why in ("No space left on device", "it is closed", "Broken pipe"))
+    cases += [(f"{command} {words} > /dev/full", (1, "", full)) for words in ("--night night", "--help", "--html x.html < page")]
+    cases += [(f"{command} --night night >&-", (1, "", shut)), (f"{command} --night night 2>&- > /dev/full", (1, "", "")),
+              (f"{{ sleep 0.2; {command} < page; echo $? >&2; }} | true", (0, "", broken + "1\n")),
+              (f"LC_ALL=C PYTHONIOENCODING=ascii {command} < page", (0, out, ""))]
+    with ThreadPoolExecutor(4) as pool:
+        for (what, wanted), got in zip(cases, pool.map(lambda one: shell(one[0], elsewhere), cases)):
+            same(got, wanted, what)
+    same(os.path.exists(os.path.join(elsewhere, "x.html")), True, "the HTML is there where standard output is full")
+
+
+def without_a_list(top, elsewhere):
+    """The page is shown where the words of the refusals are not to be had, and so is that."""
     with open(os.path.join(top, "docs", "refusals.txt"), "w", encoding="utf-8") as file:
         file.write("")
-    status, out, err = shell(f"{command} --html x.html < page", elsewhere)
-    same((status, f"    refusal {given}, not known here\n" in out, err), (1, True, "morning: the list of refusals cannot be read: docs/refusals.txt has no entry\n"), "no list")
+    status, out, err = shell(f"'{top}/tools/frames/morning.py' --html x.html < page", elsewhere)
+    said = "morning: the list of refusals cannot be read: docs/refusals.txt has no entry\n"
+    same((status, f"    refusal {max(frame.refusals())}, not known here\n" in out, err), (1, True, said), "no list")
 
 
 def on_a_terminal():
     """Its width, and colours where it has them; without them it is the plain text."""
     page, kept = morning.page_of(joined(paged(**WHOLE))), os.environ.copy()
-    for columns, variables, coloured in ((60, {"TERM": "xterm"}, True), (200, {"TERM": "linux"}, True), (60, {"TERM": "dumb"}, False), (60, {"TERM": "xterm", "NO_COLOR": "1"}, False)):
-        master, slave = terminal(columns)
+    for columns, variables, coloured in ((60, {"TERM": "xterm"}, True), (200, {"TERM": "linux"}, True), (60, {"TERM": "dumb"}, False),
+                                         (60, {"TERM": "xterm", "NO_COLOR": "1"}, False)):
         os.environ.pop("NO_COLOR", None)
         os.environ.update(variables)
         try:
-            with streams(joined(paged(**WHOLE))) as (_, err), open(slave, "w", encoding="utf-8") as sys.stdout:
-                # a terminal holds little that nobody has read
-                reader = threading.Thread(target=lambda: seen.append(looked_at(master)))
-                seen = []
-                reader.start()
+            with streams(joined(paged(**WHOLE))) as (_, err), terminal(columns) as (sys.stdout, found):
                 same((morning.main([]), err.getvalue()), (0, ""), columns)
         finally:
             os.environ.clear()
             os.environ.update(kept)
-        reader.join()
-        plain = re.sub("\x1b\\[[0-9;]*m", "", seen[0])
-        same((plain != seen[0], plain.replace("\r\n", "\n")), (coloured, "".join(line + "\n" for line in morning.text_of(page, morning.Night(), KNOWN, min(columns, 100)))), columns)
-        same(seen[0].count("\x1b[0m"), seen[0].count("\x1b[") - seen[0].count("\x1b[0m"), "every colour ends")
+        text, = found
+        plain = re.sub("\x1b\\[[0-9;]*m", "", text)
+        same((plain != text, plain.split("\r\n")), (coloured, morning.text_of(page, morning.Night(), KNOWN, min(columns, 100)) + [""]), columns)
+        same(text.count("\x1b[0m"), text.count("\x1b[") - text.count("\x1b[0m"), "every colour ends")
 
 
 def interrupted(top, elsewhere):
     made_up(top, "echo at work >&2; exec sleep 60")
-    with subprocess.Popen([os.path.join(top, "tools", "frames", "morning.py"), "--night", "night"], cwd=elsewhere, stdout=subprocess.PIPE, stderr=subprocess.PIPE,
-                          start_new_session=True, preexec_fn=lambda: signal.signal(signal.SIGINT, signal.SIG_DFL)) as process:
+    command = [os.path.join(top, "tools", "frames", "morning.py"), "--night", "night"]
+    with subprocess.Popen(command, cwd=elsewhere, stdout=subprocess.PIPE, stderr=subprocess.PIPE, start_new_session=True,
+                          preexec_fn=lambda: signal.signal(signal.SIGINT, signal.SIG_DFL)) as process:
         same(process.stderr.readline(), b"at work\n", "./run is at work")
         os.killpg(process.pid, signal.SIGINT)
         out, err = process.communicate(timeout=60)
@@ -746,12 +761,13 @@ def interrupted(top, elsewhere):
 def night_line(drawn, numbers):
     """A line of a night, of every kind."""
     kind = drawn.randrange(10)
-    record = (drawn.randrange(-512, 513), drawn.randrange(20), drawn.randrange(65536), drawn.randrange(65536))
+    record = (drawn.choice((0, -32768, 32767, drawn.randrange(-512, 513))), drawn.randrange(20), drawn.randrange(65536), drawn.randrange(65536))
     if kind < 6:
         return (struct.pack(">BhHHH", 0, *record) + drawn.randbytes(16 * drawn.choice((1, 1, 2, 3, 512)))).hex().upper().encode()
     if kind < 8:
         return struct.pack(">BhHHH", drawn.choice(numbers), *record).hex().upper().encode()
-    return drawn.choice((b"", b"no answer", 18 * b"0", b"C8" + 16 * b"0", b"0" * 49, b"0000000014" + 40 * b"0", b"00" * 25 + b"\r", b"ab" + b"0" * 48, b"05" + b"0" * 48))
+    return drawn.choice((b"", b"no answer", 18 * b"0", b"C8" + 16 * b"0", b"0" * 49, b"0000000014" + 40 * b"0", 50 * b"0" + b"\r", b"ab" + b"0" * 48,
+                         b"05" + b"0" * 48))
 
 
 def counted(lines, numbers):
@@ -799,7 +815,7 @@ def in_process(folder):
     try:
         whole_pages()
         drawn_pages(folder)
-        base = paged(longest=list(range(3, 9)) + [0, 0, 7] + [20] * 7 + [0, 0, 5, 5], refused=[(1, 0), (5, 2), (8, 0), (12, 4)], totals=(10, 20, 30), unreadable=6)
+        base = paged([3, 4, 5, 6, 7, 8, 0, 0, 7, 20, 20, 20, 20, 20, 20, 20, 0, 0, 5, 5], [(1, 0), (5, 2), (8, 0), (12, 4)], (10, 20, 30), 6)
         bad_numbers(base)
         bad_orders(base)
         bad_sums(base)
@@ -827,8 +843,8 @@ def main(words):
         os.makedirs(elsewhere)
         copied(top)
         called(top, elsewhere)
-        copied(top)
         interrupted(top, elsewhere)
+        without_a_list(top, elsewhere)
         said = by_program(folder) if words == ["--program"] else ""
     print(f"tools/frames: {tried} tries of morning.py{said}")
 

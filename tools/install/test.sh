@@ -24,8 +24,10 @@ for time in first second; do
 644 lib/pkgconfig/lichenoar.pc
 644 share/man/man1/lichenoar.1
 755 bin/lichenoar
+755 bin/lichenoar-morning
 755 bin/lichenoar-sweep
 755 lib/lichenoar/lichenoar
+755 lib/lichenoar/morning
 755 lib/lichenoar/status.sh
 755 lib/lichenoar/sweep
 END
@@ -70,6 +72,23 @@ bare "$there/bin/lichenoar" < "$room/frames" | wc -l | cmp - <(wc -l < "$room/fr
 bare "$there/bin/lichenoar-sweep" --help | grep -q 'man lichenoar' || fail "lichenoar-sweep --help"
 bare "$there/bin/lichenoar-sweep" --none > /dev/null 2>&1
 [ $? -eq 2 ] || fail "a word that the sweep program does not know"
+
+# the morning program: its recorded lines; the page of the frame program's own answers, a part of it counted here; no line, lost input and output
+bare "$there/bin/lichenoar-morning" < crates/morning/stdin > "$room/page" 2> "$room/said" && [ ! -s "$room/said" ] || fail "the installed morning program's status"
+cmp "$room/page" crates/morning/stdout || fail "the installed morning program's page"
+bare "$there/bin/lichenoar" < crates/lichenoar/stdin | bare "$there/bin/lichenoar-morning" > "$room/page" || fail "the page of the recorded answers"
+for part in "answered $(grep -c '^00' crates/lichenoar/stdout)" "refused 9 $(grep -c '^09' crates/lichenoar/stdout)" 'unreadable 0'; do
+    grep -qx "$part" "$room/page" || fail "the page of the recorded answers has no line $part"
+done
+bare "$there/bin/lichenoar-morning" < /dev/null > "$room/page" && cmp "$room/page" <(sed 's/[0-9]*$/0/' crates/morning/stdout) || fail "the page of no line"
+for lost in '< "$1" > /dev/full' '< "$1" >&-' '< / > /dev/null' '<&- > /dev/null'; do
+    bare bash -c "'$there/bin/lichenoar-morning' $lost" bash "$top/crates/morning/stdin" 2> "$room/said"
+    [ $? -eq 1 ] && [ "$(wc -l < "$room/said")" -eq 1 ] || fail "lost input or output is not told by the morning program: $lost"
+done
+[ "$(bare "$there/bin/lichenoar-morning" --version)" = "lichenoar-morning $version" ] || fail "lichenoar-morning --version"
+bare "$there/bin/lichenoar-morning" --help | grep -q 'man lichenoar' || fail "lichenoar-morning --help"
+bare "$there/bin/lichenoar-morning" --none > /dev/null 2>&1
+[ $? -eq 2 ] || fail "a word that the morning program does not know"
 
 # C
 mkdir "$room/c" || exit 2

@@ -19,7 +19,7 @@ strict=(-std=c11 -O2 -Wall -Wextra -Wpedantic -Werror)
 cc "${strict[@]}" -o "$work/plain" tools/morning/plain.c
 
 step "the numbers of docs/refusals.txt, and a page of no lines"
-listed=$(PYTHONPATH=tools/refusals python3 -c 'import listed; print(*(one.number for one in listed.read()))')
+listed=$(PYTHONPATH=tools/refusals python3 -c 'import listed; print(*(one.number for one in listed.read()))') || fail "docs/refusals.txt is not read"
 counted=$("$work/plain" < /dev/null | sed -n 's/^refused \([0-9]*\) 0$/\1/p' | paste -sd ' ')
 [ "$listed" = "$counted" ] || fail "docs/refusals.txt lists $listed; plain.c, count.py and expected.h have $counted"
 

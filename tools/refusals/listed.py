@@ -3,7 +3,7 @@ import os
 from typing import NamedTuple
 
 TOP = os.path.dirname(os.path.dirname(os.path.dirname(os.path.abspath(__file__))))
-GIVERS = ("K", "I", "log-gamma", "frame", "sweep")
+GIVERS = ("K", "I", "log-gamma", "frame", "sweep", "page")
 
 
 class Listed(NamedTuple):

@@ -87,7 +87,8 @@ def proved_orders(top):
 
 def claims(entries, top):
     got = {giver: sorted(numbers) for giver, numbers in proved_orders(top).items()}
-    wanted = {giver: [one.number for one in entries if giver in one.given_by] for giver in listed.GIVERS}
+    # a page has no list of checks: one number, or none
+    wanted = {giver: [one.number for one in entries if giver in one.given_by] for giver in listed.GIVERS if giver != "page"}
     for giver, field in NO_OTHER:
         others = part(record_of(top, *RECORDS[giver]), rf"^  pub {field} :(?:(?!^  pub ).)*?\(0(?= ∷)", r"\[\]", f"{field} of {RECORDS[giver][1]}")
         got[f"{giver}, {field}"] = sorted(map(int, re.findall(r"\d+", others[others.rindex("("):])))

@@ -1,6 +1,7 @@
-//! K and I of one order, K of several with the counts of the steps taken, calls that are refused: the words, and what to do; and the frames of a sweep.
+//! K and I of one order, K of several with the counts of the steps taken, calls that are refused: the words, and what to do; the frames of a sweep; and the
+//! page of a few answer lines.
 
-use lichenoar::{i, k, k_into, Complex, Kind, Refusal, Scaling, Sweep, SweepError};
+use lichenoar::{i, k, k_into, Complex, Kind, Page, Refusal, Scaling, Sweep, SweepError};
 
 fn told(name: &str, value: Result<Complex, Refusal>) {
     match value {
@@ -28,5 +29,12 @@ fn main() -> Result<(), SweepError> {
     for frame in sweep.frames_into(&mut lines)? {
         println!("{frame} asks at {}", frame.point().1);
     }
+
+    // an answer, a refusal by 4, and a line that was cut
+    let mut page = Page::new();
+    for line in ["0000000010000000003FED02CD380D17703FC94EB2DB77969A3FF37EB3DB656B713FDC2EE896201B11", "040000000000000000", "04000000"] {
+        page.line(line.as_bytes())?;
+    }
+    println!("{} lines: {} answered, {} refused by 4, {} unreadable", page.lines(), page.answered(), page.refused(4), page.unreadable());
     Ok(())
 }

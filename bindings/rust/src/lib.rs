@@ -5,7 +5,7 @@
 //!
 //! [`k`] and [`i`] give one value. [`k_into`] and [`i_into`] fill a slice with consecutive orders v, v+1, .., one an entry, and count their steps. Domain:
 //! orders from 0 to 1,000, slices of 1 to 512 entries, real parts from 0 to 32,768, imaginary parts from -32,768 to 32,768. A [`Sweep`] writes the frames that
-//! ask at evenly spaced points, for the frame program.
+//! ask at evenly spaced points, for the frame program; a [`Page`] counts the answer lines that the frame program gives.
 //!
 //! ```
 //! use lichenoar::{k, k_into, Complex, Scaling};
@@ -25,17 +25,19 @@
 //! ```
 //!
 //! **On a refusal** every entry of the slice holds the fixed not-a-number (bits 7FF8000000000000) in both parts: no entry is left from before the call.
-//! A sweep that is refused writes nothing.
+//! A sweep that is refused writes nothing, and a page that is full stays as it was.
 #![no_std]
 #![warn(missing_docs)]
 
 mod complex;
 pub mod elementary;
+mod page;
 mod raw;
 mod refusal;
 mod sweep;
 
 pub use complex::Complex;
+pub use page::Page;
 pub use refusal::Refusal;
 pub use sweep::{Frame, Frames, Kind, Sweep, SweepError};
 

@@ -1,6 +1,8 @@
 //! The functions of libcapi.a. A record of 20 bytes comes back through a pointer passed first, one of 8 or 16 by value, and a slice passes as its first
 //! element and its length: this is x86-64's calling convention, and the archives for other processors follow it.
 
+use crate::Page;
+
 #[repr(C)]
 #[derive(Default)]
 pub(crate) struct Answer {
@@ -42,6 +44,8 @@ extern "C" {
         out: *mut u8,
         length: usize,
     ) -> Sweep;
+    pub(crate) fn lichenoar_page_line(page: *mut Page, line: *const u8, length: usize) -> u32;
+    pub(crate) fn lichenoar_page_join(into: *mut Page, from: *const Page) -> u32;
     pub(crate) fn lichenoar_sqrt(x: f64) -> f64;
     pub(crate) fn lichenoar_hypot(x: f64, y: f64) -> f64;
     pub(crate) fn lichenoar_exp(x: f64) -> f64;
@@ -66,6 +70,9 @@ const _: () = {
     assert!(offset_of!(LogGamma, value) == 0 && offset_of!(LogGamma, number) == 8);
     assert!(size_of::<Sweep>() == 8 && align_of::<Sweep>() == 4);
     assert!(offset_of!(Sweep, number) == 0 && offset_of!(Sweep, needed) == 4);
+    assert!(size_of::<Page>() == 464 && align_of::<Page>() == align_of::<u64>());
+    assert!(offset_of!(Page, numbers) == 0 && offset_of!(Page, reserved) == 256 && offset_of!(Page, longest) == 264 && offset_of!(Page, rungs) == 424);
+    assert!(offset_of!(Page, backward) == 432 && offset_of!(Page, zeros) == 440 && offset_of!(Page, lines) == 448 && offset_of!(Page, unreadable) == 456);
     assert!(size_of::<crate::Complex>() == 16 && align_of::<crate::Complex>() == align_of::<f64>());
     assert!(offset_of!(crate::Complex, re) == 0 && offset_of!(crate::Complex, im) == 8);
 };
@@ -191,5 +198,95 @@ mod tests {
         }
         let record = unsafe { lichenoar_sweep(1, 0, 1, 0.0, 1.0, 0.0, 2.0, 0.0, 4096, core::ptr::null_mut(), 0) };
         assert_eq!((record.number, record.needed), (0, 233_472));
+    }
+
+    /// The cells of a page, in their order: 32 numbers, one in reserve, 20 longest sums, rungs, backward steps, zeros, lines, unreadable.
+    type Cells = [u64; 58];
+    const LINES: usize = 56;
+    const MOST: u64 = Page::MOST_LINES;
+
+    fn page(cells: Cells) -> Page {
+        // Safety: a page is 58 cells one after the other, of any bits.
+        unsafe { core::mem::transmute(cells) }
+    }
+
+    /// The line counted into a page of these cells, with a guard on each side: the number, and the cells then.
+    fn counted(cells: Cells, line: &[u8]) -> (u32, Cells) {
+        let mut room = [[GUARD; 58], cells, [GUARD; 58]];
+        let number = unsafe { lichenoar_page_line(room[1].as_mut_ptr().cast(), line.as_ptr(), line.len()) };
+        assert_eq!((room[0], room[2]), ([GUARD; 58], [GUARD; 58]));
+        (number, room[1])
+    }
+
+    /// Pages of these cells joined, with a guard on each side of both: the number, and the cells of the first then. The second's stay.
+    fn joined(into: Cells, from: Cells) -> (u32, Cells) {
+        let mut room = [[GUARD; 58], into, [GUARD; 58], from, [GUARD; 58]];
+        let (before, behind) = room.split_at_mut(3);
+        let number = unsafe { lichenoar_page_join(before[1].as_mut_ptr().cast(), behind[0].as_ptr().cast()) };
+        assert_eq!((room[0], room[2], room[3], room[4]), ([GUARD; 58], [GUARD; 58], from, [GUARD; 58]));
+        (number, room[1])
+    }
+
+    /// The cells with these added, each up to the largest u64.
+    fn plus(mut cells: Cells, more: &[(usize, u64)]) -> Cells {
+        more.iter().for_each(|&(at, by)| cells[at] = cells[at].saturating_add(by));
+        cells
+    }
+
+    /// An answer of one order: -3 zeros, a sum of 19 terms, 1,509 rungs, 256 backward steps. A refusal by 15, whose counts are in no total. No answer line.
+    const LINE: [&[u8]; 3] = [b"00FFFD001305E501003FF00000000000000000000000000000", b"0FFFFF0013FFFFFFFF", b"0FFFFF0013FFFFFFF"];
+    const ADDED: [&[(usize, u64)]; 3] = [&[(0, 1), (33 + 19, 1), (53, 1509), (54, 256), (55, 3), (LINES, 1)], &[(15, 1), (LINES, 1)], &[(LINES, 1), (57, 1)]];
+
+    #[test]
+    fn each_cell_of_a_page_is_where_it_is_declared() {
+        for (line, added) in LINE.into_iter().zip(ADDED) {
+            assert_eq!(counted([0; 58], line), (0, plus([0; 58], added)));
+        }
+        let mut got = Page::new();
+        LINE.iter().for_each(|line| got.line(line).unwrap());
+        assert_eq!(got, page(ADDED.into_iter().fold([0; 58], plus)));
+        assert_eq!((got.answered(), got.refused(15), got.longest(19), got.rungs(), got.backward(), got.zeros()), (1, 1, 1, 1509, 256, 3));
+        assert_eq!((got.read(), got.unreadable(), got.lines()), (2, 1, 3));
+        // an empty line may be at no place
+        let mut cells = [0; 58];
+        assert_eq!(unsafe { lichenoar_page_line(cells.as_mut_ptr().cast(), core::ptr::null(), 0) }, 0);
+        assert_eq!(cells, plus([0; 58], ADDED[2]));
+    }
+
+    // what the cell of the lines may be
+    const HELD: [u64; 9] = [0, 1, MOST - 1, MOST, MOST + 1, 1 << 63, u64::MAX - MOST + 1, u64::MAX - 1, u64::MAX];
+
+    #[test]
+    fn a_page_that_is_not_ours() {
+        // cells near the end of their range, the lines any number
+        for below in [0, 1, 2, 3, 255, 256, 257, 1508, 1509, 1510, u64::MAX] {
+            for lines in HELD {
+                let mut cells = [u64::MAX - below; 58];
+                cells[LINES] = lines;
+                for (line, added) in LINE.into_iter().zip(ADDED) {
+                    let want = if lines >= MOST { (15, cells) } else { (0, plus(cells, added)) };
+                    assert_eq!(counted(cells, line), want, "{below} {lines}");
+                }
+                assert_eq!(page(cells).read(), if below == u64::MAX { 0 } else { u64::MAX });
+            }
+        }
+    }
+
+    #[test]
+    fn pages_that_are_not_ours_joined() {
+        let values = [(u64::MAX, u64::MAX), (1, u64::MAX), (u64::MAX, 0), (1 << 63, 1 << 63), (7, 8), (u64::MAX - 8, 8), (9, u64::MAX - 8)];
+        for (lines, more) in HELD.into_iter().flat_map(|lines| HELD.map(|more| (lines, more))) {
+            for (a, b) in values {
+                let (mut into, mut from) = ([a; 58], [b; 58]);
+                (into[LINES], from[LINES]) = (lines, more);
+                let added: [(usize, u64); 58] = core::array::from_fn(|at| (at, from[at]));
+                let full = u128::from(lines) + u128::from(more) > u128::from(MOST);
+                assert_eq!(joined(into, from), if full { (15, into) } else { (0, plus(into, &added)) }, "{a} {b}, lines {lines} {more}");
+            }
+        }
+        // each cell is added to its own
+        let into: Cells = core::array::from_fn(|at| 100 * at as u64);
+        let from: Cells = core::array::from_fn(|at| if at == LINES { 1 } else { 1 << at });
+        assert_eq!(joined(into, from), (0, core::array::from_fn(|at| into[at] + from[at])));
     }
 }

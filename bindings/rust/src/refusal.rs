@@ -2,7 +2,7 @@ use core::error::Error;
 use core::fmt;
 
 /// Why a call has no answer. Where several apply, the first in this order is given. K: 1, 2, 3, 11, 12, 4, 6, 7, 8. I: 1, 2, 3, 11, 12, 5, 8.
-/// Log-gamma: 2, 10, 8. A sweep: 13, 9, 1, 2, 3, 11, 12.
+/// Log-gamma: 2, 10, 8. A sweep: 13, 9, 1, 2, 3, 11, 12. A page: 15 alone.
 ///
 /// [`words`](Refusal::words) says what was met and [`remedy`](Refusal::remedy) what to do about it, as docs/refusals.txt of the repository has them and the
 /// C header and the shift's scripts say them.
@@ -70,6 +70,8 @@ pub enum Refusal {
     Size,
     /// 13: a sweep of no step, or of more than 4,096.
     Steps,
+    /// 15: a line more for a page that holds 4,294,967,295 lines, or two pages joined that hold more together.
+    Full,
     /// A number that this version of the crate does not know, from a newer archive.
     Other(u32),
 }
@@ -101,6 +103,7 @@ impl Refusal {
             11 => Refusal::Sign,
             12 => Refusal::Size,
             13 => Refusal::Steps,
+            15 => Refusal::Full,
             other => Refusal::Other(other),
         })
     }
@@ -122,6 +125,7 @@ impl Refusal {
             Refusal::Sign => 11,
             Refusal::Size => 12,
             Refusal::Steps => 13,
+            Refusal::Full => 15,
             Refusal::Other(number) => number,
         }
     }
@@ -143,6 +147,7 @@ impl Refusal {
             Refusal::Sign => "a real part is below 0",
             Refusal::Size => "a part is above 32,768 in magnitude",
             Refusal::Steps => "a sweep of no steps or of more than 4,096",
+            Refusal::Full => "a page would hold more than 4,294,967,295 lines",
             Refusal::Other(_) => "not known here",
         }
     }
@@ -174,6 +179,7 @@ impl Refusal {
             Refusal::Sign => "ask at real parts of 0 or more; -0 counts as 0",
             Refusal::Size => "ask at parts from -32,768 to 32,768",
             Refusal::Steps => "ask for 1 to 4,096 steps",
+            Refusal::Full => "begin another page; the full one stands as it was",
             Refusal::Other(_) => "look it up in the list of the archive's version",
         }
     }

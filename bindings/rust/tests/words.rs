@@ -116,7 +116,7 @@ fn every_function_of_the_archive_is_declared_and_explained() {
     const RAW: &str = include_str!("../src/raw.rs");
     let name = |line: &'static str| line.strip_prefix("pub extern \"C\" fn ").map(|rest| rest.split('(').next().unwrap());
     let exports: BTreeSet<&str> = EXPORTS.lines().filter_map(name).collect();
-    assert_eq!(exports.len(), 16);
+    assert_eq!(exports.len(), 18);
     let lines: Vec<&str> = HEADER.lines().collect();
     let mut declared = BTreeSet::new();
     for (at, line) in lines.iter().enumerate() {

@@ -38,9 +38,12 @@ unfoldable pub pairOf : List ℕ → ℕ → ℕ → List ℕ
 pairOf word k n = word ++ (decimalOf k ++ rowOf (32 ∷ []) n)
 
 -- ---- the refused lines, of each number of the list below k; the answered ones, by each longest sum below l
+unfoldable pub numberRow : ℕ → List ℕ → List ℕ
+numberRow k page = cond (isListed k) (pairOf refusedWord k (getD page k 0)) []
+
 unfoldable pub refusedRows : ℕ → List ℕ → List ℕ
 refusedRows zero page = []
-refusedRows (suc k) page = refusedRows k page ++ cond (isListed k) (pairOf refusedWord k (getD page k 0)) []
+refusedRows (suc k) page = refusedRows k page ++ numberRow k page
 
 unfoldable pub longestRows : ℕ → List ℕ → List ℕ
 longestRows zero page = []

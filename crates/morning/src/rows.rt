@@ -1,10 +1,10 @@
 // The page as text: a part a line, a word and its number in decimal. Promised: pageText of specs/Rows.antt, for every page.
 ghost use mathlib.Core.Path.{_≡_};
 ghost use mathlib.Core.List.{_++_};
-ghost use Prim.Native.Nat.{_+_, _≤_};
+ghost use Prim.Native.Nat.{_+_, _≤_, _<_};
 ghost use lib.ListN.{length, take};
-ghost use Rattle.page.specs.Layout.{cells};
-ghost use Rattle.morning.specs.Rows.{rowOf, pairOf, refusedRows, longestRows, lastRows, pageText, mostText};
+ghost use Rattle.page.specs.Layout.{cells, numbers, sums};
+ghost use Rattle.morning.specs.Rows.{rowOf, pairOf, numberRow, refusedRows, longestRows, lastRows, pageText, mostText};
 use page::layout::BACKWARD_AT;
 use page::layout::LONGEST_AT;
 use page::layout::NUMBERS;
@@ -36,17 +36,26 @@ fn put_pair(word: &[u8], k: u64, n: u64, text: &mut [u8], at: usize) -> usize
     put_row(b" ", n, text, second)
 }
 
+// The lines that a number refused, where the list has it.
+fn put_number_row(k: usize, page: &[u64], text: &mut [u8], at: usize) -> usize
+    requires { ⌜ (k < numbers) × (length (now page) ≡ cells) × (at + 73 ≤ length (now text)) ⌝ }
+    ensures { λ r. ⌜ (r ≤ at + 73) × (take r (now (text .exit)) ≡ take at (now (text .entry)) ++ numberRow k (now (page .entry))) ⌝ }
+{
+    if is_listed(k as u32) {
+        return put_pair(b"refused ", k as u64, page[k], text, at);
+    }
+    at
+}
+
 // The refused lines, of each number of the list.
 fn put_refused(page: &[u64], text: &mut [u8], from: usize) -> usize
     requires { ⌜ (length (now page) ≡ cells) × (from + 2336 ≤ length (now text)) ⌝ }
-    ensures { λ r. ⌜ (r ≤ from + 2336) × (take r (now (text .exit)) ≡ take from (now (text .entry)) ++ refusedRows 32 (now (page .entry))) ⌝ }
+    ensures { λ r. ⌜ (r ≤ from + 2336) × (take r (now (text .exit)) ≡ take from (now (text .entry)) ++ refusedRows numbers (now (page .entry))) ⌝ }
 {
     let mut at = from;
-    let mut k: usize = 0;
+    let mut k = 0;
     while k < NUMBERS {
-        if is_listed(k as u32) {
-            at = put_pair(b"refused ", k as u64, page[k], text, at);
-        }
+        at = put_number_row(k, page, text, at);
         k += 1;
     }
     at
@@ -55,10 +64,10 @@ fn put_refused(page: &[u64], text: &mut [u8], from: usize) -> usize
 // The answered lines, by their longest sum.
 fn put_longest(page: &[u64], text: &mut [u8], from: usize) -> usize
     requires { ⌜ (length (now page) ≡ cells) × (from + 1460 ≤ length (now text)) ⌝ }
-    ensures { λ r. ⌜ (r ≤ from + 1460) × (take r (now (text .exit)) ≡ take from (now (text .entry)) ++ longestRows 20 (now (page .entry))) ⌝ }
+    ensures { λ r. ⌜ (r ≤ from + 1460) × (take r (now (text .exit)) ≡ take from (now (text .entry)) ++ longestRows sums (now (page .entry))) ⌝ }
 {
     let mut at = from;
-    let mut l: usize = 0;
+    let mut l = 0;
     while l < SUMS {
         at = put_pair(b"longest ", l as u64, page[LONGEST_AT + l], text, at);
         l += 1;

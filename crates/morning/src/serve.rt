@@ -39,7 +39,14 @@ fn settle(piece: Piece, line: &[u8], page: &mut [u64; 58], refused: u64) -> Prog
 }
 
 // Bytes one by one, as far as the line's end.
-fn take_bytes(chunk: &[u8], at: usize, line: &mut [u8], held: usize, page: &mut [u64; 58], refused: u64) -> Progress
+fn take_bytes(
+    chunk: &[u8],
+    at: usize,
+    line: &mut [u8],
+    held: usize,
+    page: &mut [u64; 58],
+    refused: u64,
+) -> Progress
     requires { ⌜ (at < length (now chunk)) × (length (now line) ≡ mostHeld) × (held ≤ mostHeld) ⌝ }
     ensures { λ r. ⌜ (at < r .at)
         × (r .at ≤ length (now (chunk .entry)))
@@ -50,7 +57,14 @@ fn take_bytes(chunk: &[u8], at: usize, line: &mut [u8], held: usize, page: &mut 
 }
 
 // A whole line of digits where nothing is held and one comes next, and else bytes.
-fn take_some(chunk: &[u8], at: usize, line: &mut [u8], held: usize, page: &mut [u64; 58], refused: u64) -> Progress
+fn take_some(
+    chunk: &[u8],
+    at: usize,
+    line: &mut [u8],
+    held: usize,
+    page: &mut [u64; 58],
+    refused: u64,
+) -> Progress
     requires { ⌜ (at < length (now chunk)) × (length (now line) ≡ mostHeld) × (held ≤ mostHeld) ⌝ }
     ensures { λ r. ⌜ (at < r .at)
         × (r .at ≤ length (now (chunk .entry)))

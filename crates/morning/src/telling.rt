@@ -1,10 +1,9 @@
 // What is told at the end: the page on standard output, a line on standard error for lines too many or for what was lost, and the status, one digit and a
 // newline, on descriptor 3 where that is open. A program of this language ends with status 0 always; whoever starts it turns the digit into a status.
-// No contract of the kit says what a write was given, so `send` demands that it is given exactly the text of the page.
+// No contract of the kit says what a write was given, so `send` demands that it is given exactly the text of the page of what was read.
 ghost use mathlib.Core.Path.{_≡_};
-ghost use Prim.Native.Nat.{_≤_};
-ghost use lib.ListN.{length};
-ghost use Rattle.page.specs.Layout.{cells};
+ghost use Rattle.splitting.specs.declared.state.State.the-variants.{Whole};
+ghost use Rattle.morning.specs.Turn.{Served};
 ghost use Rattle.morning.specs.Rows.{pageText};
 use crate::rows::put_page;
 use crate::turn::Turn;
@@ -16,9 +15,9 @@ use splitting::state::status;
 
 const STATUS_FILENO: i32 = 3;
 
-// The one place where a page leaves the program.
-fn send(text: &[u8], page: &[u64]) -> State
-    requires { ⌜ now text ≡ pageText (now page) ⌝ }
+// The one place where a page leaves the program: that of the whole input. How it ended is there for the demand.
+fn send(text: &[u8], page: &[u64; 58], last: Turn) -> State
+    requires { ⌜ (now text ≡ pageText (now page)) × (last .state ≡ Whole) × Served (now page) last ⌝ }
 {
     if io::write_all(STDOUT_FILENO, text) {
         return State::Whole;
@@ -27,14 +26,15 @@ fn send(text: &[u8], page: &[u64]) -> State
 }
 
 // A page of a part of the input is not shown.
-fn show(state: State, page: &[u64]) -> State
-    requires { ⌜ length (now page) ≡ cells ⌝ }
+fn show(last: Turn, page: &[u64; 58]) -> State
+    requires { ⌜ Served (now page) last ⌝ }
 {
+    let state = last.state;
     match state {
         State::Whole => {
             let mut text = [0u8; 4096];
             let n = put_page(page, &mut text);
-            send(&text[0..n], page)
+            send(&text[0..n], page, last)
         }
         State::Going => State::Going,
         State::Unwritten => State::Unwritten,
@@ -44,7 +44,10 @@ fn show(state: State, page: &[u64]) -> State
 
 fn lament(state: State) {
     match state {
-        State::Unwritten => io::write_all(STDERR_FILENO, b"morning: the page could not be written\n"),
+        State::Unwritten => io::write_all(
+            STDERR_FILENO,
+            b"morning: the page could not be written\n",
+        ),
         State::Unread => io::write_all(
             STDERR_FILENO,
             b"morning: the input could not be read to its end; there is no page\n",
@@ -55,8 +58,10 @@ fn lament(state: State) {
     ;
 }
 
-pub fn tell(last: Turn, page: &[u64]) {
-    let state = show(last.state, page);
+pub fn tell(last: Turn, page: &[u64; 58])
+    requires { ⌜ Served (now page) last ⌝ }
+{
+    let state = show(last, page);
     if last.refused > 0 {
         io::write_all(STDERR_FILENO, b"line 4294967296: refusal 15\n");
     }

@@ -72,8 +72,8 @@ join-comm a b f g h =
     let back = room b a (omega arith) in (
       room-number b a back,
       room-page a b there
-      ∙ upTo-same cells (λ i. addedTo (getD a i 0) (getD b i 0)) (λ i. addedTo (getD b i 0) (getD a i 0)) (λ i k. added-comm (getD a i 0) (getD b i 0) (f i) (g i))
-      ∙ sym (room-page b a back),
+          ∙ upTo-same cells (λ i. addedTo (getD a i 0) (getD b i 0)) (λ i. addedTo (getD b i 0) (getD a i 0)) (λ i k. added-comm (getD a i 0) (getD b i 0) (f i) (g i))
+          ∙ sym (room-page b a back),
     )
 
 -- ---- grouping
@@ -104,8 +104,8 @@ module _ (a b c : List ℕ) (h : linesIn a + linesIn b + linesIn c ≤ mostLines
     room-number (joinPage a b) c left-room,
     room-number a (joinPage b c) right-room,
     room-page (joinPage a b) c left-room
-    ∙ ap (λ (p : List ℕ). joinedCells p c) left
-    ∙ cells-over
-    ∙ ap (joinedCells a) (sym right)
-    ∙ sym (room-page a (joinPage b c) right-room),
+        ∙ ap (λ (p : List ℕ). joinedCells p c) left
+        ∙ cells-over
+        ∙ ap (joinedCells a) (sym right)
+        ∙ sym (room-page a (joinPage b c) right-room),
   )

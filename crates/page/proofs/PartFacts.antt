@@ -42,9 +42,11 @@ at-cells P n r l e i h = go (ltb i numbers) refl
     sums : (b : Bool) → ltb i rungsAt ≡ b → numbers < i → P i
     sums true k m = let t = ltb-true i rungsAt k in let q : longestAt + (i - longestAt) ≡ i = omega arith in subst P q (l (i - longestAt) (omega arith))
     sums false k m = let t = ltb-false i rungsAt k in let q : rungsAt + (i - rungsAt) ≡ i = omega arith in subst P q (e (i - rungsAt) (omega arith))
+
     behind : (b : Bool) → eqb i reservedAt ≡ b → numbers ≤ i → P i
     behind true k m = subst P (sym (eqb-true i reservedAt k)) r
     behind false k m = let t = eqb-false i reservedAt k in sums (ltb i rungsAt) refl (omega arith)
+
     go : (b : Bool) → ltb i numbers ≡ b → P i
     go true k = n i (ltb-true i numbers k)
     go false k = behind (eqb i reservedAt) refl (ltb-false i numbers k)

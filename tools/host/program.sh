@@ -43,6 +43,8 @@ tried() {
     cp crates.txt "$try/crates.txt"
     for crate in "${crates_found[@]}"; do [ "$crate" = "$name" ] || ln -s "$PWD/crates/$crate" "$try/crates/$crate"; done
     ln -s "$PWD/crates/$name/src" "$try/crates/$name/src"
+    # what the proved program writes where there is no input
+    "${kit_command[@]}" "target/bin/$name" < /dev/null > "$try/crates/$name/stdout" 2> /dev/null || return
     (cd "$try" && RATTLE_HOME=$shadow rt try "$name") > target/host/log 2>&1 || return
     python3 tools/host/same_code.py "$object" "target/obj/$name.o" >> target/host/log 2>&1
 }

@@ -54,7 +54,7 @@ fits-if o n b number answered refused =
       refused = refused;
     }
 
-called-bounded : (kind : Kind) (a : Asking) (n : ℕ) → Bounded (calledAs kind a n)
+pub called-bounded : (kind : Kind) (a : Asking) (n : ℕ) → Bounded (calledAs kind a n)
 unfolding calledAs iOutcome
 called-bounded K a n = k-bounded (a .scaled) (a .v) (a .re) (a .im) n
 called-bounded I a n = series-bounded (a .scaled) false (a .v) (a .re) (a .im) n

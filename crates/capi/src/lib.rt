@@ -16,6 +16,7 @@ ghost use Rattle.rounding.specs.Round.{roundOf};
 ghost use Rattle.gamma_ln.specs.LogGamma.{logGammaOf};
 ghost use Rattle.frame.specs.Over.{offered};
 ghost use Rattle.sweeping.specs.Sweep.{sweptOf, framesOf};
+ghost use Rattle.page.specs.Joining.{joinNumber, joinPage, lineNumber, linePage};
 ghost use Rattle.capi.specs.Outcome.{outcomeOf, isScaled, answerOf, requestOf, sweepOf};
 ghost use Rattle.bessel.specs.I.{iOutcome};
 ghost use Rattle.bessel.specs.K.{kOutcome};
@@ -215,4 +216,23 @@ pub extern "C" fn lichenoar_sweep(
         number: swept.number,
         needed: swept.needed,
     }
+}
+
+// A page lies as 58 numbers, one behind the other, at the places of crate page's layout.rt: programs in other languages declare it as a record of them. A
+// page of zeros is the empty one. An answer line, without its newline, is counted; the answer is 0, or 15 with the page as it was.
+#[no_mangle]
+pub extern "C" fn lichenoar_page_line(page: &mut [u64; 58], line: &[u8]) -> u32
+    ensures { λ r. ⌜ (r ≡ lineNumber (now (page .entry)) (now (line .entry)))
+        × (now (page .exit) ≡ linePage (now (page .entry)) (now (line .entry))) ⌝ }
+{
+    page::adding::add_line(page, line)
+}
+
+// One page added to another, which is another one: 0, or 15 with both as they were.
+#[no_mangle]
+pub extern "C" fn lichenoar_page_join(into: &mut [u64; 58], from: &[u64; 58]) -> u32
+    ensures { λ r. ⌜ (r ≡ joinNumber (now (into .entry)) (now (from .entry)))
+        × (now (into .exit) ≡ joinPage (now (into .entry)) (now (from .entry))) ⌝ }
+{
+    page::adding::join(into, from)
 }

@@ -104,6 +104,7 @@ use Rattle.claims.proofs.Routines.{OneResult, OfRoutines, of-routines}
 use Rattle.claims.proofs.Rows.{Rows, rows}
 use Rattle.claims.proofs.Numbers.{NumberOfK, NumberOfSeries, number-of-k, number-of-series}
 use Rattle.claims.proofs.Sweeps.{OfSweep, of-sweep}
+use Rattle.claims.proofs.Pages.{OfPage, of-page}
 use Rattle.claims.proofs.Lines.{nine-exactly, line-number-k, line-number-i, line-no-other}
 use Rattle.refusal.specs.Number.{numberOf as refusal-number}
 
@@ -330,7 +331,7 @@ of-log-gamma = record {
   ends = series-ends;
 }
 
--- ---- the functions of the C boundary, but the sweep's (Sweeps.antt): of each, one result. `lichenoar_sqrt` to `lichenoar_round` promise the equations of their routines
+-- ---- the functions of the C boundary, but the sweep's (Sweeps.antt) and the page's (Pages.antt): of each, one result. `lichenoar_sqrt` to `lichenoar_round` promise the equations of their routines
 pub record OfExports : Type 0 where
   pub routines : OneResult
   pub log-gamma : (x : Float) → Determined (λ (r : exported.LogGamma). r ≡ exportedLogGamma (logGammaOf x))
@@ -454,6 +455,7 @@ pub record Claims : Type 0 where
   pub of-lines : OfLines
   pub of-input : OfInput
   pub of-sweep : OfSweep
+  pub of-page : OfPage
 
 pub claims : Claims
 claims = record {
@@ -471,4 +473,5 @@ claims = record {
   of-lines = of-lines;
   of-input = of-input;
   of-sweep = of-sweep;
+  of-page = of-page;
 }

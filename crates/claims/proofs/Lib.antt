@@ -8,4 +8,5 @@ pub mod LogGammaNumbers
 pub mod Rows
 pub mod Lines
 pub mod Sweeps
+pub mod Pages
 pub mod Claims

@@ -85,7 +85,7 @@ wider m (x ∷ xs) ys w t = by (eqb x m) refl t (wider m xs ys (and-r (isOneOf x
     by false e u h = h u
 
 -- 0, the program's 9, and what K and I can give
-abbrev lineNumbers : List ℕ
+abbrev pub lineNumbers : List ℕ
 lineNumbers = 0 ∷ 9 ∷ 1 ∷ 2 ∷ 3 ∷ 11 ∷ 12 ∷ 4 ∷ 5 ∷ 6 ∷ 7 ∷ 8 ∷ []
 
 called-listed : (kind : Kind) (a : Asking) (n : ℕ) → T (isOneOf (calledAs kind a n .answer .number) lineNumbers)

@@ -18,10 +18,10 @@ use Rattle.page.proofs.PartFacts.{number-part, longest-part}
 use Rattle.page.proofs.SaidFacts.{said-known, line-part}
 
 -- ---- a sum of parts over the lines is a sum over the lines of what each line counts for in them
-total-same : (f g : List ℕ → ℕ) (lines : List (List ℕ)) → ((l : List ℕ) → f l ≡ g l) → totalOf f lines ≡ totalOf g lines
+pub total-as : (f g : List ℕ → ℕ) (lines : List (List ℕ)) → ((l : List ℕ) → f l ≡ g l) → totalOf f lines ≡ totalOf g lines
 unfolding totalOf
-total-same f g [] h = refl
-total-same f g (l ∷ ls) h = let e = total-same f g ls h in let k = h l in omega arith
+total-as f g [] h = refl
+total-as f g (l ∷ ls) h = let e = total-as f g ls h in let k = h l in omega arith
 
 total-plus : (f g : List ℕ → ℕ) (lines : List (List ℕ)) → totalOf (λ l. f l + g l) lines ≡ totalOf f lines + totalOf g lines
 unfolding totalOf
@@ -79,15 +79,15 @@ unreadable-part s = refl
 module _ (lines : List (List ℕ)) where
   pub cell-of-number : (k : ℕ) → k < numbers → cellOf k lines ≡ totalOf (λ l. asNumber k (saidBy l)) lines
   unfolding cellOf
-  cell-of-number k h = total-same (λ l. partAt k (saidBy l)) (λ l. asNumber k (saidBy l)) lines (λ l. number-part (saidBy l) k h)
+  cell-of-number k h = total-as (λ l. partAt k (saidBy l)) (λ l. asNumber k (saidBy l)) lines (λ l. number-part (saidBy l) k h)
 
   pub cell-of-longest : (l : ℕ) → l < sums → cellOf (longestAt + l) lines ≡ totalOf (λ x. asLongest l (saidBy x)) lines
   unfolding cellOf
-  cell-of-longest l h = total-same (λ x. partAt (longestAt + l) (saidBy x)) (λ x. asLongest l (saidBy x)) lines (λ x. longest-part (saidBy x) l h)
+  cell-of-longest l h = total-as (λ x. partAt (longestAt + l) (saidBy x)) (λ x. asLongest l (saidBy x)) lines (λ x. longest-part (saidBy x) l h)
 
   pub cell-of-lines : cellOf linesAt lines ≡ length lines
   unfolding cellOf
-  cell-of-lines = total-same (λ l. partAt linesAt (saidBy l)) (λ l. 1) lines (λ l. line-part (saidBy l)) ∙ total-ones lines
+  cell-of-lines = total-as (λ l. partAt linesAt (saidBy l)) (λ l. 1) lines (λ l. line-part (saidBy l)) ∙ total-ones lines
 
   -- answered and refused, by their numbers, are the lines that are read
   pub numbers-add-up : sumUpTo numbers (λ k. cellOf k lines) ≡ readOf lines
@@ -95,14 +95,14 @@ module _ (lines : List (List ℕ)) where
   numbers-add-up =
       sum-few numbers (λ k. cellOf k lines) (λ k. totalOf (λ l. asNumber k (saidBy l)) lines) cell-of-number
       ∙ swapped numbers (λ k l. asNumber k (saidBy l)) lines
-      ∙ total-same (λ l. sumUpTo numbers (λ k. asNumber k (saidBy l))) (λ l. asRead (saidBy l)) lines (λ l. numbers-of (saidBy l) (known l))
+      ∙ total-as (λ l. sumUpTo numbers (λ k. asNumber k (saidBy l))) (λ l. asRead (saidBy l)) lines (λ l. numbers-of (saidBy l) (known l))
 
   -- the twenty parts are the answered lines
   pub longest-add-up : sumUpTo sums (λ l. cellOf (longestAt + l) lines) ≡ cellOf 0 lines
   longest-add-up =
       sum-few sums (λ l. cellOf (longestAt + l) lines) (λ l. totalOf (λ x. asLongest l (saidBy x)) lines) cell-of-longest
       ∙ swapped sums (λ l x. asLongest l (saidBy x)) lines
-      ∙ total-same (λ x. sumUpTo sums (λ l. asLongest l (saidBy x))) (λ x. asNumber 0 (saidBy x)) lines (λ x. longest-of (saidBy x) (known x))
+      ∙ total-as (λ x. sumUpTo sums (λ l. asLongest l (saidBy x))) (λ x. asNumber 0 (saidBy x)) lines (λ x. longest-of (saidBy x) (known x))
       ∙ sym (cell-of-number 0 (omega arith))
 
   -- read and unreadable ones are all lines
@@ -110,7 +110,7 @@ module _ (lines : List (List ℕ)) where
   unfolding readOf cellOf
   lines-add-up =
       ap (λ (n : ℕ). totalOf (λ l. asRead (saidBy l)) lines + n)
-      (total-same (λ l. partAt unreadableAt (saidBy l)) (λ l. asUnreadable (saidBy l)) lines (λ l. unreadable-part (saidBy l)))
+      (total-as (λ l. partAt unreadableAt (saidBy l)) (λ l. asUnreadable (saidBy l)) lines (λ l. unreadable-part (saidBy l)))
       ∙ sym (total-plus (λ l. asRead (saidBy l)) (λ l. asUnreadable (saidBy l)) lines)
-      ∙ total-same (λ l. asRead (saidBy l) + asUnreadable (saidBy l)) (λ l. 1) lines (λ l. read-or-not (saidBy l))
+      ∙ total-as (λ l. asRead (saidBy l) + asUnreadable (saidBy l)) (λ l. 1) lines (λ l. read-or-not (saidBy l))
       ∙ total-ones lines

@@ -100,6 +100,11 @@ def of_claims(one):
             yield Edit("claims", f"{giver}, {field} without {one.number}", path, all_that, lambda m: m["a"] + re.sub(rf"(?<!\d){one.number} ∷", "", m["l"]))
         else:
             yield Edit("claims", f"{giver}, {field} with {one.number}", path, all_that, rf"\g<a> {one.number} ∷\g<l>")
+    all_that = rf"(?P<a>^pub record OfPage\b{rest}pub no-other :{rest}\(0 ∷)(?P<l>[^\]]*)"
+    if "page" in one.given_by:
+        yield Edit("claims", f"a page without {one.number}", same.PAGES, all_that, lambda m: m["a"] + re.sub(rf"(?<!\d){one.number} ∷", "", m["l"]))
+    else:
+        yield Edit("claims", f"a page with {one.number}", same.PAGES, all_that, rf"\g<a> {one.number} ∷\g<l>")
     path = same.CLAIMS
     a_line = r"(?P<a>^  pub no-other : \(line\b[^\n]*\(0 ∷)(?P<l>[^\]\n]*)"
     if {"K", "I", "frame"} & set(one.given_by):

@@ -18,7 +18,7 @@ import listed
 READ = (
     "README.md", "docs/SCOPE.md", "docs/refusals.txt", "bindings/c/lichenoar.h", "bindings/rust/src/refusal.rs", "crates/refusal/src/refusal.rt",
     "crates/refusal/specs/Number.antt", "crates/claims/proofs/Claims.antt", "tools/refusals/listed.py", "tools/frames/show.py", "tools/frames/frame.py",
-    "crates/claims/proofs/Sweeps.antt", "bindings/rust/README.md", "docs/lichenoar.1",
+    "crates/claims/proofs/Sweeps.antt", "crates/claims/proofs/Pages.antt", "bindings/rust/README.md", "docs/lichenoar.1",
 )
 # the pages that tell the order of the checks, and of whom
 TOLD_BY = ("README.md", "docs/SCOPE.md", "bindings/c/lichenoar.h", "bindings/rust/src/refusal.rs", "bindings/rust/README.md")
@@ -27,7 +27,7 @@ ORDERED["docs/lichenoar.1"] = ("K", "I")
 # how a page names whom, before the order
 NAMED = {"K": "K", "I": "I", "log-gamma": "[Ll]og-gamma", "sweep": "[Ss]weep"}
 # the record of the claims that has whose list; and where a field of it says that there is no number but these and 0
-CLAIMS, SWEEPS = "crates/claims/proofs/Claims.antt", "crates/claims/proofs/Sweeps.antt"
+CLAIMS, SWEEPS, PAGES = "crates/claims/proofs/Claims.antt", "crates/claims/proofs/Sweeps.antt", "crates/claims/proofs/Pages.antt"
 RECORDS = {"K": (CLAIMS, "OfK"), "I": (CLAIMS, "OfSeries"), "log-gamma": (CLAIMS, "OfLogGamma"), "sweep": (SWEEPS, "OfSweep")}
 NO_OTHER = (("log-gamma", "no-other"), ("sweep", "no-other"), ("sweep", "line-no-other"))
 
@@ -87,8 +87,9 @@ def proved_orders(top):
 
 def claims(entries, top):
     got = {giver: sorted(numbers) for giver, numbers in proved_orders(top).items()}
+    wanted = {giver: [one.number for one in entries if giver in one.given_by] for giver in listed.GIVERS}
     # a page has no list of checks: one number, or none
-    wanted = {giver: [one.number for one in entries if giver in one.given_by] for giver in listed.GIVERS if giver != "page"}
+    got["page"] = sorted(map(int, re.findall(r"[1-9]\d*", part(record_of(top, PAGES, "OfPage"), r"^  pub no-other :[^\n]*\(0(?= ∷)", r"\[\]", "the numbers of a page"))))
     for giver, field in NO_OTHER:
         others = part(record_of(top, *RECORDS[giver]), rf"^  pub {field} :(?:(?!^  pub ).)*?\(0(?= ∷)", r"\[\]", f"{field} of {RECORDS[giver][1]}")
         got[f"{giver}, {field}"] = sorted(map(int, re.findall(r"\d+", others[others.rindex("("):])))

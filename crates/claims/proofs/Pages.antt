@@ -1,7 +1,7 @@
 -- The claims of the page: what a line says, each part by itself over the list of lines, that the parts add up, what a line added and two pages joined come to,
 -- 15 exactly, no overflow, and where the answer lines of our own program are counted. Assumes nothing.
 use mathlib.Core.Path.{_≡_, refl, sym, ap, _∙_, subst}
-use mathlib.Core.Logic.{_⊎_}
+use mathlib.Core.Logic.{_⊎_, inl, inr}
 use mathlib.Core.Bool.{Bool, true, false, cond, _&&_, _||_}
 use mathlib.Core.List.{List, [], _∷_, _++_}
 use Prim.Native.Nat.{ℕ, _+_, _*_, _≤_, _<_}
@@ -149,11 +149,12 @@ pub record OfPage : Type 0 where
   -- joining gives the page of the one list behind the other; beyond 2^32 - 1 lines it is refused, and the page stands
   pub joined : (a b : List (List ℕ)) → length (a ++ b) ≤ mostLines → (joinNumber (pageOf a) (pageOf b) ≡ 0) × (joinPage (pageOf a) (pageOf b) ≡ pageOf (a ++ b))
   pub join-beyond : (a b : List (List ℕ)) → mostLines < length (a ++ b) → (joinNumber (pageOf a) (pageOf b) ≡ 15) × (joinPage (pageOf a) (pageOf b) ≡ pageOf a)
-  -- of any page, ours or not: 0 with every cell added, or 15 with the page as it was, by the counts of lines alone; no other number
+  -- of any page, ours or not: 0 with every cell added, or 15 with the page as it was, by the counts of lines alone; no number but these
   pub outcome :
       (a b : List ℕ) →
       ((linesIn a + linesIn b ≤ mostLines) × (joinNumber a b ≡ 0) × (joinPage a b ≡ joinedCells a b))
       ⊎ ((mostLines < linesIn a + linesIn b) × (joinNumber a b ≡ 15) × (joinPage a b ≡ a))
+  pub no-other : (a b : List ℕ) → T (isOneOf (joinNumber a b) (0 ∷ 15 ∷ []))
   -- where it is not refused, order and grouping do not matter
   pub order : (a b : List ℕ) → Fits a → Fits b → linesIn a + linesIn b ≤ mostLines → (joinNumber b a ≡ 0) × (joinPage a b ≡ joinPage b a)
   pub grouping :
@@ -169,6 +170,13 @@ pub record OfPage : Type 0 where
   pub own-counts :
       (asked : List ℕ) → let o = outcomeOf (parsedOf asked) .answer in let s = saidBy (answerLineOf asked) in o .number ≡ 0 →
       (asLongest (o .«longest_sum») s ≡ 1) × (rungsIn s ≡ o .rungs) × (backwardIn s ≡ o .backward) × (zerosIn s ≡ natAbs (o .zeros))
+
+one-of-two : (a b : List ℕ) → T (isOneOf (joinNumber a b) (0 ∷ 15 ∷ []))
+one-of-two a b =
+    elim (outcome a b) [
+      | inl w ↦ subst (λ (n : ℕ). T (isOneOf n (0 ∷ 15 ∷ []))) (sym (w .1)) tt
+      | inr w ↦ subst (λ (n : ℕ). T (isOneOf n (0 ∷ 15 ∷ []))) (sym (w .1)) tt
+    ]
 
 -- the last cells, by their places
 module _ (lines : List (List ℕ)) where
@@ -204,6 +212,7 @@ of-page = record {
   joined = join-is;
   join-beyond = join-beyond;
   outcome = outcome;
+  no-other = one-of-two;
   order = join-comm;
   grouping = join-over;
   no-overflow = no-overflow;

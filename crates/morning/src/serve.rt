@@ -21,7 +21,8 @@ use splitting::state::is_over;
 // A line that has come to its end is counted; of any other the held bytes wait.
 fn settle(piece: Piece, line: &[u8], page: &mut [u64; 58], refused: u64) -> Progress
     requires { ⌜ piece .held ≤ length (now line) ⌝ }
-    ensures { λ r. ⌜ (r .at ≡ piece .at) × Settled (piece .ended) (piece .held) (now (line .entry)) (now (page .entry)) refused (now (page .exit)) (r .held) (r .refused) ⌝ }
+    ensures { λ r. ⌜ (r .at ≡ piece .at)
+        × Settled (piece .ended) (piece .held) (now (line .entry)) (now (page .entry)) refused (now (page .exit)) (r .held) (r .refused) ⌝ }
 {
     let held = piece.held;
     if piece.ended {
@@ -50,7 +51,8 @@ fn take_bytes(
     requires { ⌜ (at < length (now chunk)) × (length (now line) ≡ mostHeld) × (held ≤ mostHeld) ⌝ }
     ensures { λ r. ⌜ (at < r .at)
         × (r .at ≤ length (now (chunk .entry)))
-        × Passed (take held (now (line .entry))) (partOf (now (chunk .entry)) at (r .at)) (now (page .entry)) refused (now (line .exit)) (now (page .exit)) (r .held) (r .refused) ⌝ }
+        × Passed (take held (now (line .entry))) (partOf (now (chunk .entry)) at (r .at)) (now (page .entry)) refused (now (line .exit))
+        (now (page .exit)) (r .held) (r .refused) ⌝ }
 {
     let piece = take_line(chunk, at, line, held);
     settle(piece, line, page, refused)
@@ -68,7 +70,8 @@ fn take_some(
     requires { ⌜ (at < length (now chunk)) × (length (now line) ≡ mostHeld) × (held ≤ mostHeld) ⌝ }
     ensures { λ r. ⌜ (at < r .at)
         × (r .at ≤ length (now (chunk .entry)))
-        × Passed (take held (now (line .entry))) (partOf (now (chunk .entry)) at (r .at)) (now (page .entry)) refused (now (line .exit)) (now (page .exit)) (r .held) (r .refused) ⌝ }
+        × Passed (take held (now (line .entry))) (partOf (now (chunk .entry)) at (r .at)) (now (page .entry)) refused (now (line .exit))
+        (now (page .exit)) (r .held) (r .refused) ⌝ }
 {
     if held == 0 {
         let n = digits_ahead(chunk, at);
@@ -86,7 +89,8 @@ fn take_some(
 // A whole chunk, line by line.
 fn consume(chunk: &[u8], line: &mut [u8], held: usize, page: &mut [u64; 58], refused: u64) -> Turn
     requires { ⌜ (length (now line) ≡ mostHeld) × (held ≤ mostHeld) ⌝ }
-    ensures { λ r. ⌜ PassedTo (take held (now (line .entry))) (now (chunk .entry)) (now (page .entry)) refused (now (line .exit)) (now (page .exit)) r ⌝ }
+    ensures { λ r. ⌜ PassedTo (take held (now (line .entry))) (now (chunk .entry)) (now (page .entry)) refused (now (line .exit))
+        (now (page .exit)) r ⌝ }
 {
     let mut at = 0;
     let mut kept = held;
@@ -126,7 +130,8 @@ fn finish(line: &[u8], held: usize, page: &mut [u64; 58], refused: u64) -> Turn
 // What a read reported and brought: a failure, the end, or some bytes.
 fn take_read(got: isize, input: &[u8], line: &mut [u8], page: &mut [u64; 58], turn: Turn) -> Turn
     requires { ⌜ (length (now line) ≡ mostHeld) × (turn .held ≤ mostHeld) ⌝ }
-    ensures { λ r. ⌜ TakenRead got (now (input .entry)) (take (turn .held) (now (line .entry))) (now (page .entry)) (turn .refused) (now (line .exit)) (now (page .exit)) r ⌝ }
+    ensures { λ r. ⌜ TakenRead got (now (input .entry)) (take (turn .held) (now (line .entry))) (now (page .entry)) (turn .refused)
+        (now (line .exit)) (now (page .exit)) r ⌝ }
 {
     if got < 0 {
         return Turn {
@@ -144,7 +149,8 @@ fn take_read(got: isize, input: &[u8], line: &mut [u8], page: &mut [u64; 58], tu
 
 fn serve_read(line: &mut [u8], page: &mut [u64; 58], turn: Turn) -> Turn
     requires { ⌜ (length (now line) ≡ mostHeld) × (turn .held ≤ mostHeld) ⌝ }
-    ensures { λ r. ⌜ OneRead (take (turn .held) (now (line .entry))) (now (page .entry)) (turn .refused) (now (line .exit)) (now (page .exit)) r ⌝ }
+    ensures { λ r. ⌜ OneRead (take (turn .held) (now (line .entry))) (now (page .entry)) (turn .refused) (now (line .exit))
+        (now (page .exit)) r ⌝ }
 {
     let mut input = io::large_buffer();
     let got = libc::read(STDIN_FILENO, &mut input);

@@ -128,6 +128,14 @@ digits-take (suc n) (c ∷ l) e = let p = both (isDigit c) (areDigits l) e in ap
 pub digits-part : (n m : ℕ) (l : List ℕ) → areDigits l ≡ true → areDigits (take n (drop m l)) ≡ true
 digits-part n m l e = digits-take n (drop m l) (digits-drop m l e)
 
+-- the byte that ends a line is no digit
+ten-no-digit : isDigit 10 ≡ false
+unfolding isDigit
+ten-no-digit = refl
+
+pub digit-no-newline : (c : ℕ) → isDigit c ≡ true → c ≡ 10 → ⊥
+digit-no-newline c t e = subst T (sym t ∙ ap isDigit e ∙ ten-no-digit) tt
+
 pub digits-append : (a b : List ℕ) → areDigits a ≡ true → areDigits b ≡ true → areDigits (a ++ b) ≡ true
 unfolding areDigits
 digits-append [] b e f = f

@@ -13,7 +13,8 @@ use Rattle.frame.specs.declared.asking.Fields.{Fields}
 use Rattle.frame.specs.declared.asking.Framed.the-variants.{Frame, NoFrame}
 use Rattle.frame.specs.Digits.{isDigit, areDigits}
 use Rattle.frame.specs.Asking.{framedOf, askedOf}
-use Rattle.frame.proofs.DigitFacts.{both}
+use Rattle.laws.proofs.First.{passed}
+use Rattle.frame.proofs.DigitFacts.{both, digit-no-newline}
 use Rattle.frame.proofs.AskingFacts.{framed-is}
 use Rattle.answering.specs.Line.{parsedLine}
 use Rattle.answering.proofs.LineFacts.{framed-line}
@@ -23,19 +24,12 @@ use Rattle.lichenoar.specs.Feed.{feedOf, frameAhead}
 use Rattle.answering.proofs.FeedFacts.{feed, step-newline, step-other, fed-snoc}
 
 -- ---- digits are held one by one
-newline-no-digit : isDigit newline ≡ false
-unfolding isDigit
-newline-no-digit = refl
-
-digit-no-newline : (c : ℕ) → T (isDigit c) → c ≡ newline → ⊥
-digit-no-newline c t e = subst T (ap isDigit e ∙ newline-no-digit) t
-
 pub digits-held : (D h w : List ℕ) → T (areDigits D) → length h + length D ≤ mostHeld → fedOf (feed h w) D ≡ feed (h ++ D) w
 unfolding fedOf areDigits
 digits-held [] h w t n = ap (λ (l : List ℕ). feed l w) (sym (append-nil h))
 digits-held (c ∷ D) h w t n =
     let more : length (h ++ (c ∷ [])) ≡ length h + 1 = length-append h (c ∷ []) in
-    ap (λ (s : Feed). fedOf s D) (step-other (feed h w) c (digit-no-newline c (and-l (isDigit c) (areDigits D) t)) ∙ ap (λ (l : List ℕ). feed l w) (take-all mostHeld (h ++ (c ∷ [])) (omega (arith, more, n))))
+    ap (λ (s : Feed). fedOf s D) (step-other (feed h w) c (digit-no-newline c (passed (isDigit c) (and-l (isDigit c) (areDigits D) t))) ∙ ap (λ (l : List ℕ). feed l w) (take-all mostHeld (h ++ (c ∷ [])) (omega (arith, more, n))))
     ∙ digits-held D (h ++ (c ∷ [])) w (and-r (isDigit c) (areDigits D) t) (omega (arith, more, n))
     ∙ ap (λ (l : List ℕ). feed l w) (append-assoc h (c ∷ []) D)
 

@@ -5,7 +5,6 @@ use mathlib.Core.List.{List, [], _∷_, _++_, append-assoc, append-nil}
 use Prim.Native.Nat.{ℕ, suc, _+_, _-_, _%_, _≤_, _<_}
 use native.Mathlib.Numerals.{add-one}
 use native.Mathlib.Omega.{arith}
-use lib.Dec.{T}
 use lib.ListN.{length, take, drop, getD, length-append, length-drop}
 use lib.Seq.{take-add, take-suc, take-all, drop-drop, getD-drop, length-take-le}
 use Rattle.splitting.specs.Lines.{newline}
@@ -13,7 +12,7 @@ use Rattle.splitting.specs.Cut.{leftBy, endedIn, partOf}
 use Rattle.splitting.proofs.CutFacts.{left-newline, left-other, ended-newline, ended-other, left-append, ended-append}
 use Rattle.frame.specs.Layout.{recordLength, longestLine}
 use Rattle.frame.specs.Digits.{isDigit, areDigits}
-use Rattle.frame.proofs.DigitFacts.{both, digits-append}
+use Rattle.frame.proofs.DigitFacts.{both, digits-append, digit-no-newline}
 use Rattle.morning.specs.Ahead.{StartsWell, LineAhead, Ahead}
 use Rattle.morning.specs.Turn.{mostHeld}
 
@@ -49,13 +48,6 @@ pub none-ahead : (chunk : List ℕ) (at : ℕ) → Ahead chunk at 0
 none-ahead chunk at some = absurd (omega arith)
 
 -- ---- digits are held one by one
-newline-no-digit : isDigit newline ≡ false
-unfolding isDigit
-newline-no-digit = refl
-
-digit-no-newline : (c : ℕ) → isDigit c ≡ true → c ≡ newline → ⊥
-digit-no-newline c t e = subst T (sym t ∙ ap isDigit e ∙ newline-no-digit) tt
-
 digits-left : (D h : List ℕ) → areDigits D ≡ true → length h + length D ≤ mostHeld → (leftBy mostHeld h D ≡ h ++ D) × (endedIn mostHeld h D ≡ [])
 unfolding areDigits leftBy endedIn
 digits-left [] h t n = (sym (append-nil h), refl)

@@ -1,5 +1,5 @@
--- Joining two pages, and adding a line, which is joining the page of that line alone (docs/SCOPE.md, The page). Of every page, whatever its cells
--- hold: what a cell cannot hold it stays below, and 15 goes by the counts of lines alone. Definitions only.
+-- Joining two pages, and adding a line, which is joining the page of that line alone (docs/SCOPE.md, The page). This is so of every page, whatever its
+-- cells hold: a cell that would pass 2^64 - 1 stays there, and 15 goes by the counts of lines alone. Definitions only.
 use mathlib.Core.Bool.{Bool, cond}
 use mathlib.Core.List.{List, [], _∷_}
 use Prim.Native.Nat.{ℕ, _+_, _-_}

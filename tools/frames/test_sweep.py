@@ -359,7 +359,7 @@ def drawn_pictures(folder):
         same("cross: the value is not finite" in legend, any(isinstance(value, complex) and cmath.isinf(value) for value in values), turn)
         refused = sum(isinstance(value, int) for value in values)
         same((f"{count - refused} answered, {refused} refused" if refused else "all answered") in legend, True, turn)
-    same(gaps > 1000, True, f"{gaps} gaps")
+    same(gaps > 500, True, f"{gaps} gaps")
 
 
 def marks(folder):

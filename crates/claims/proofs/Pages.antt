@@ -154,6 +154,10 @@ pub record OfPage : Type 0 where
       (a b : List ℕ) →
       ((linesIn a + linesIn b ≤ mostLines) × (joinNumber a b ≡ 0) × (joinPage a b ≡ joinedCells a b))
       ⊎ ((mostLines < linesIn a + linesIn b) × (joinNumber a b ≡ 15) × (joinPage a b ≡ a))
+  pub line-outcome :
+      (page line : List ℕ) →
+      ((linesIn page < mostLines) × (lineNumber page line ≡ 0) × (linePage page line ≡ joinedCells page (pageOf (line ∷ []))))
+      ⊎ ((mostLines ≤ linesIn page) × (lineNumber page line ≡ 15) × (linePage page line ≡ page))
   pub no-other : (a b : List ℕ) → T (isOneOf (joinNumber a b) (0 ∷ 15 ∷ []))
   -- where it is not refused, order and grouping do not matter
   pub order : (a b : List ℕ) → Fits a → Fits b → linesIn a + linesIn b ≤ mostLines → (joinNumber b a ≡ 0) × (joinPage a b ≡ joinPage b a)
@@ -170,6 +174,15 @@ pub record OfPage : Type 0 where
   pub own-counts :
       (asked : List ℕ) → let o = outcomeOf (parsedOf asked) .answer in let s = saidBy (answerLineOf asked) in o .number ≡ 0 →
       (asLongest (o .«longest_sum») s ≡ 1) × (rungsIn s ≡ o .rungs) × (backwardIn s ≡ o .backward) × (zerosIn s ≡ natAbs (o .zeros))
+
+line-outcome :
+    (page line : List ℕ) →
+    ((linesIn page < mostLines) × (lineNumber page line ≡ 0) × (linePage page line ≡ joinedCells page (pageOf (line ∷ []))))
+    ⊎ ((mostLines ≤ linesIn page) × (lineNumber page line ≡ 15) × (linePage page line ≡ page))
+unfolding lineNumber linePage
+line-outcome page line =
+    let one : linesIn (pageOf (line ∷ [])) ≡ 1 = page-lines (line ∷ []) in
+    elim (outcome page (pageOf (line ∷ []))) [ inl w ↦ inl (omega (arith, w .0), w .1, w .2) | inr w ↦ inr (omega (arith, w .0), w .1, w .2) ]
 
 one-of-two : (a b : List ℕ) → T (isOneOf (joinNumber a b) (0 ∷ 15 ∷ []))
 one-of-two a b =
@@ -212,6 +225,7 @@ of-page = record {
   joined = join-is;
   join-beyond = join-beyond;
   outcome = outcome;
+  line-outcome = line-outcome;
   no-other = one-of-two;
   order = join-comm;
   grouping = join-over;

@@ -70,18 +70,18 @@ line-number-i line a e h =
     (sym (number-read line ∙ ap (λ (p : Parsed). outcomeOf p .answer .number) e ∙ ap (λ (kind : Kind). calledAs kind a n .answer .number) h))
     (number-of-series (a .scaled) false (a .v) (a .re) (a .im) n)
 
--- ---- no number but these: a list within another
-within : List ℕ → List ℕ → Bool
-within [] ys = true
-within (x ∷ xs) ys = isOneOf x ys && within xs ys
+-- ---- no number but these: what holds of all of a list holds of one of it
+unfoldable pub allOf : (ℕ → Bool) → List ℕ → Bool
+allOf P [] = true
+allOf P (x ∷ xs) = P x && allOf P xs
 
-wider : (m : ℕ) (xs ys : List ℕ) → T (within xs ys) → T (isOneOf m xs) → T (isOneOf m ys)
-unfolding within
-wider m [] ys w t = absurd t
-wider m (x ∷ xs) ys w t = by (eqb x m) refl t (wider m xs ys (and-r (isOneOf x ys) (within xs ys) w))
+pub one-of-all : (P : ℕ → Bool) (m : ℕ) (xs : List ℕ) → T (allOf P xs) → T (isOneOf m xs) → T (P m)
+unfolding allOf
+one-of-all P m [] w t = absurd t
+one-of-all P m (x ∷ xs) w t = by (eqb x m) refl t (one-of-all P m xs (and-r (P x) (allOf P xs) w))
   where
-    by : (b : Bool) → eqb x m ≡ b → T (b || isOneOf m xs) → (T (isOneOf m xs) → T (isOneOf m ys)) → T (isOneOf m ys)
-    by true e u h = subst (λ (n : ℕ). T (isOneOf n ys)) (eqb→eq x m (subst T (sym e) tt)) (and-l (isOneOf x ys) (within xs ys) w)
+    by : (b : Bool) → eqb x m ≡ b → T (b || isOneOf m xs) → (T (isOneOf m xs) → T (P m)) → T (P m)
+    by true e u h = subst (λ (n : ℕ). T (P n)) (eqb→eq x m (subst T (sym e) tt)) (and-l (P x) (allOf P xs) w)
     by false e u h = h u
 
 -- 0, the program's 9, and what K and I can give
@@ -89,13 +89,13 @@ abbrev pub lineNumbers : List ℕ
 lineNumbers = 0 ∷ 9 ∷ 1 ∷ 2 ∷ 3 ∷ 11 ∷ 12 ∷ 4 ∷ 5 ∷ 6 ∷ 7 ∷ 8 ∷ []
 
 called-listed : (kind : Kind) (a : Asking) (n : ℕ) → T (isOneOf (calledAs kind a n .answer .number) lineNumbers)
-unfolding calledAs iOutcome within
+unfolding calledAs iOutcome allOf
 called-listed K a n =
     let m = kOutcome (a .scaled) (a .v) (a .re) (a .im) n .answer .number in
-    wider m (0 ∷ 1 ∷ 2 ∷ 3 ∷ 11 ∷ 12 ∷ 4 ∷ 6 ∷ 7 ∷ 8 ∷ []) lineNumbers tt (number-of-k (a .scaled) (a .v) (a .re) (a .im) n .no-other)
+    one-of-all (λ x. isOneOf x lineNumbers) m (0 ∷ 1 ∷ 2 ∷ 3 ∷ 11 ∷ 12 ∷ 4 ∷ 6 ∷ 7 ∷ 8 ∷ []) tt (number-of-k (a .scaled) (a .v) (a .re) (a .im) n .no-other)
 called-listed I a n =
     let m = iOutcome (a .scaled) (a .v) (a .re) (a .im) n .answer .number in
-    wider m (0 ∷ 1 ∷ 2 ∷ 3 ∷ 11 ∷ 12 ∷ 5 ∷ 8 ∷ []) lineNumbers tt (number-of-series (a .scaled) false (a .v) (a .re) (a .im) n .no-other)
+    one-of-all (λ x. isOneOf x lineNumbers) m (0 ∷ 1 ∷ 2 ∷ 3 ∷ 11 ∷ 12 ∷ 5 ∷ 8 ∷ []) tt (number-of-series (a .scaled) false (a .v) (a .re) (a .im) n .no-other)
 
 outcome-listed : (p : Parsed) → T (isOneOf (outcomeOf p .answer .number) lineNumbers)
 unfolding outcomeOf calledOf refusedOutcome refusedOf

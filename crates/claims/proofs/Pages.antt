@@ -4,13 +4,13 @@ use mathlib.Core.Path.{_≡_, refl, sym, ap, _∙_, subst}
 use mathlib.Core.Logic.{_⊎_, inl, inr}
 use mathlib.Core.Bool.{Bool, true, false, cond, _&&_, _||_}
 use mathlib.Core.List.{List, [], _∷_, _++_}
-use Prim.Native.Nat.{ℕ, _+_, _*_, _≤_, _<_}
+use Prim.Native.Nat.{ℕ, _+_, _*_, _≤_, _<_, min}
 use native.Mathlib.Omega.{arith}
 use borrow.Author.Tests.{le-leb, eq-eqb}
-use lib.Dec.{T, leb, eqb, eqb→eq}
-use lib.Ieee.Fits.{and-l, and-r}
+use lib.Dec.{T, leb, eqb}
 use lib.IntN.{natAbs}
 use lib.ListN.{length, take, getD}
+use Rattle.laws.proofs.First.{passed}
 use Rattle.refusal.specs.Number.{numberOf as refusal-number, isListed}
 use Rattle.refusal.specs.declared.refusal.Refusal.{Refusal}
 use Rattle.refusal.specs.declared.refusal.Refusal.the-variants as refusals
@@ -41,36 +41,19 @@ use Rattle.page.specs.Joining.{joinedCells, emptyPage, linesIn, joinNumber, joi
 use Rattle.page.proofs.ListFacts.{named}
 use Rattle.page.proofs.SumFacts.{total-as, cell-of-number, cell-of-longest, numbers-add-up, longest-add-up, lines-add-up}
 use Rattle.page.proofs.BoundFacts.{no-overflow}
-use Rattle.page.proofs.JoinFacts.{Fits, outcome, join-comm, join-over}
+use Rattle.page.proofs.JoinFacts.{Fits, joined-cell, outcome, join-comm, join-over}
 use Rattle.page.proofs.PageFacts.{page-get, page-lines, joined-fits, join-is, join-beyond, line-more, line-beyond, night}
 use Rattle.claims.proofs.Determined.{Determined, Gives, one-outcome}
-use Rattle.claims.proofs.Lines.{lineNumbers, line-no-other}
+use Rattle.claims.proofs.Lines.{allOf, one-of-all, lineNumbers, line-no-other}
 
 -- ---- a number that our own program writes is one that the page knows
 known : ℕ → Bool
 known n = eqb n 0 || isListed n
 
-allKnown : List ℕ → Bool
-allKnown [] = true
-allKnown (x ∷ xs) = known x && allKnown xs
-
-one-known : (n : ℕ) (xs : List ℕ) → T (allKnown xs) → T (isOneOf n xs) → T (known n)
-unfolding allKnown
-one-known n [] a t = absurd t
-one-known n (x ∷ xs) a t = by (eqb x n) refl t (one-known n xs (and-r (known x) (allKnown xs) a))
-  where
-    by : (b : Bool) → eqb x n ≡ b → T (b || isOneOf n xs) → (T (isOneOf n xs) → T (known n)) → T (known n)
-    by true e u h = subst (λ (m : ℕ). T (known m)) (eqb→eq x n (subst T (sym e) tt)) (and-l (known x) (allKnown xs) a)
-    by false e u h = h u
-
-is-true : (b : Bool) → T b → b ≡ true
-is-true true t = refl
-is-true false t = absurd t
-
 own-number : (line : List ℕ) → (eqb (outcomeOf (parsedOf line) .answer .number) 0 || isListed (outcomeOf (parsedOf line) .answer .number)) ≡ true
-unfolding known allKnown isListed
+unfolding known allOf isListed
 own-number line =
-    is-true _ (subst (λ (n : ℕ). T (known n)) (number-read line) (one-known (numberOf (take byteWidth (answerLineOf line))) lineNumbers tt (line-no-other line)))
+    passed _ (subst (λ (n : ℕ). T (known n)) (number-read line) (one-of-all known (numberOf (take byteWidth (answerLineOf line))) lineNumbers tt (line-no-other line)))
 
 own-bounded : (p : Parsed) → Bounded (outcomeOf p)
 unfolding outcomeOf calledOf
@@ -149,11 +132,13 @@ pub record OfPage : Type 0 where
   -- joining gives the page of the one list behind the other; beyond 2^32 - 1 lines it is refused, and the page stands
   pub joined : (a b : List (List ℕ)) → length (a ++ b) ≤ mostLines → (joinNumber (pageOf a) (pageOf b) ≡ 0) × (joinPage (pageOf a) (pageOf b) ≡ pageOf (a ++ b))
   pub join-beyond : (a b : List (List ℕ)) → mostLines < length (a ++ b) → (joinNumber (pageOf a) (pageOf b) ≡ 15) × (joinPage (pageOf a) (pageOf b) ≡ pageOf a)
-  -- of any page, ours or not: 0 with every cell added, or 15 with the page as it was, by the counts of lines alone; no number but these
+  -- of any page, ours or not: 0 with every cell added, or 15 with the page as it was, by the counts of lines alone; a cell is then
+  -- the sum, or 2^64 - 1 where that is less; no number but these
   pub outcome :
       (a b : List ℕ) →
       ((linesIn a + linesIn b ≤ mostLines) × (joinNumber a b ≡ 0) × (joinPage a b ≡ joinedCells a b))
       ⊎ ((mostLines < linesIn a + linesIn b) × (joinNumber a b ≡ 15) × (joinPage a b ≡ a))
+  pub cell : (a b : List ℕ) (i : ℕ) → i < cells → Fits a → Fits b → getD (joinedCells a b) i 0 ≡ min (getD a i 0 + getD b i 0) mostCell
   pub line-outcome :
       (page line : List ℕ) →
       ((linesIn page < mostLines) × (lineNumber page line ≡ 0) × (linePage page line ≡ joinedCells page (pageOf (line ∷ []))))
@@ -225,6 +210,7 @@ of-page = record {
   joined = join-is;
   join-beyond = join-beyond;
   outcome = outcome;
+  cell = joined-cell;
   line-outcome = line-outcome;
   no-other = one-of-two;
   order = join-comm;

@@ -11,7 +11,7 @@ use lib.Seq.{take-all}
 use Rattle.splitting.specs.Lines.{lastOf}
 use Rattle.splitting.specs.Cut.{closedIf, leftIf, leftBy, endedIn, partOf, Taken}
 use Rattle.splitting.specs.Count.{counted}
-use Rattle.splitting.proofs.CutFacts.{left-append, ended-append}
+use Rattle.splitting.proofs.CutFacts.{last-some, last-none, left-append, ended-append}
 use Rattle.splitting.proofs.KeepFacts.{part-more}
 use Rattle.page.specs.Joining.{linePage}
 use Rattle.morning.specs.Ahead.{LineAhead}
@@ -118,14 +118,8 @@ consumed-all {chunk} {h} {p} {x} {line} {q} {at} {held} {y} c e =
     subst (λ (b : List ℕ). Passed h b p x line q held y) (take-all (at - 0) chunk (omega arith)) (c .passed)
 
 -- ---- the last line, as if its newline had come
-last-some : (h : List ℕ) → 0 < length h → lastOf h ≡ h ∷ []
-unfolding lastOf
-last-some [] l = absurd (omega arith)
-last-some (b ∷ h) l = refl
-
-pub last-none : (line page : List ℕ) (held n : ℕ) → held ≡ 0 → Grown (lastOf (take held line)) page n page n
-unfolding lastOf
-last-none line page held n e = subst (λ (k : ℕ). Grown (lastOf (take k line)) page n page n) (sym e) (grown-none page n)
+pub no-last-line : (line page : List ℕ) (held n : ℕ) → held ≡ 0 → Grown (lastOf (take held line)) page n page n
+no-last-line line page held n e = subst (λ (ls : List (List ℕ)). Grown ls page n page n) (sym (last-none line held e)) (grown-none page n)
 
 pub last-line :
     (line page : List ℕ) (held before : ℕ) (page' : List ℕ) (after : ℕ) → 0 < length (take held line) → page' ≡ linePage page (take (held - 0) line) →

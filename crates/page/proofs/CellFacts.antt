@@ -3,7 +3,7 @@ use mathlib.Core.Path.{_≡_, refl, sym, ap, _∙_}
 use mathlib.Core.Logic.{_⊎_, inl, inr}
 use mathlib.Core.Bool.{Bool, true, false, cond}
 use mathlib.Core.List.{List, [], _∷_, _++_}
-use Prim.Native.Nat.{ℕ, zero, suc, _+_, _-_, _≤_, _<_}
+use Prim.Native.Nat.{ℕ, zero, suc, _+_, _-_, _≤_, _<_, min}
 use native.Mathlib.Omega.{arith}
 use borrow.Author.Tests.{le-leb, lt-leb, leb-true, leb-false, ne-eqb, eqb-true, eqb-false}
 use lib.Dec.{leb, eqb}
@@ -53,6 +53,10 @@ module _ (a b : ℕ) where
   pub added-fits : a + b ≤ mostCell → addedTo a b ≡ a + b
   unfolding addedTo
   added-fits h = simp (le-leb b (mostCell - a) (omega arith))
+
+-- of numbers of 64 bits it is the sum, or the most that they hold
+pub added-min : (a b : ℕ) → a ≤ mostCell → addedTo a b ≡ min (a + b) mostCell
+added-min a b h = elim (added-is a b) [ inl p ↦ omega (arith, p) | inr p ↦ omega (arith, p) ]
 
 pub added-none : (a : ℕ) → addedTo a 0 ≡ a
 unfolding addedTo

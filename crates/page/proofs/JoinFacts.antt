@@ -4,7 +4,7 @@ use mathlib.Core.Path.{_≡_, refl, sym, ap, ap₂, _∙_}
 use mathlib.Core.Logic.{_⊎_, inl, inr}
 use mathlib.Core.Bool.{Bool, true, false, cond}
 use mathlib.Core.List.{List}
-use Prim.Native.Nat.{ℕ, _+_, _≤_, _<_}
+use Prim.Native.Nat.{ℕ, _+_, _≤_, _<_, min}
 use native.Mathlib.Omega.{arith}
 use borrow.Author.Tests.{le-leb, lt-leb, leb-true, leb-false}
 use lib.Dec.{leb}
@@ -14,7 +14,7 @@ use Rattle.refusal.specs.declared.refusal.Refusal.the-variants.{Full}
 use Rattle.page.specs.Layout.{linesAt, cells, mostLines, mostCell}
 use Rattle.page.specs.Parts.{upTo}
 use Rattle.page.specs.Joining.{addedTo, joinedCells, linesIn, isRoom, joinNumber, joinPage}
-use Rattle.page.proofs.CellFacts.{upTo-length, upTo-get, upTo-same, added-fits, added-over, added-comm}
+use Rattle.page.proofs.CellFacts.{upTo-length, upTo-get, upTo-same, added-fits, added-min, added-over, added-comm}
 use Rattle.page.proofs.SaidFacts.{room-number, room-page, full-number, full-page}
 
 -- ---- a cell of two pages joined
@@ -64,6 +64,9 @@ module _ (a b : List ℕ) where
 -- every cell is one that 64 bits hold
 abbrev pub Fits : List ℕ → Type 0
 Fits page = (i : ℕ) → getD page i 0 ≤ mostCell
+
+pub joined-cell : (a b : List ℕ) (i : ℕ) → i < cells → Fits a → Fits b → getD (joinedCells a b) i 0 ≡ min (getD a i 0 + getD b i 0) mostCell
+joined-cell a b i h f g = joined-get a b i h ∙ added-min (getD a i 0) (getD b i 0) (f i)
 
 pub join-comm : (a b : List ℕ) → Fits a → Fits b → linesIn a + linesIn b ≤ mostLines → (joinNumber b a ≡ 0) × (joinPage a b ≡ joinPage b a)
 unfolding joinedCells

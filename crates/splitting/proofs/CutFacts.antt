@@ -6,7 +6,7 @@ use Prim.Native.Nat.{ℕ, zero, suc, _<_}
 use native.Mathlib.Omega.{arith}
 use borrow.Author.Tests.{eq-eqb, ne-eqb}
 use lib.Dec.{eqb}
-use lib.ListN.{take}
+use lib.ListN.{length, take}
 use lib.Seq.{take-nil}
 use Rattle.splitting.specs.Lines.{newline, lastOf, linesFrom, linesOf}
 use Rattle.splitting.specs.Cut.{heldIf, closedIf, leftBy, endedIn, shortened}
@@ -54,6 +54,16 @@ pub take-more : (n : ℕ) (l x : List ℕ) → take n (take n l ++ x) ≡ take n
 take-more zero l x = refl
 take-more (suc n) [] x = refl
 take-more (suc n) (c ∷ l) x = ap (λ (k : List ℕ). c ∷ k) (take-more n l x)
+
+-- what is held at the end is a last line, unless it is empty
+pub last-some : (h : List ℕ) → 0 < length h → lastOf h ≡ h ∷ []
+unfolding lastOf
+last-some [] l = absurd (omega arith)
+last-some (b ∷ h) l = refl
+
+pub last-none : (line : List ℕ) (held : ℕ) → held ≡ 0 → lastOf (take held line) ≡ []
+unfolding lastOf
+last-none line held e = ap (λ (n : ℕ). lastOf (take n line)) e
 
 -- a last line is there whether or not it is shortened
 last-shortened : (most : ℕ) (line : List ℕ) → 0 < most → lastOf (take most line) ≡ shortened most (lastOf line)

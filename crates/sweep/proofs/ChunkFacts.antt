@@ -9,9 +9,8 @@ use native.Mathlib.Omega.{arith}
 use lib.Dec.{T}
 use lib.ListN.{length, take}
 use lib.Seq.{take-all}
-use Rattle.splitting.specs.Lines.{lastOf}
 use Rattle.splitting.specs.Cut.{closedIf, leftIf, leftBy, endedIn, partOf, Taken}
-use Rattle.splitting.proofs.CutFacts.{left-append, ended-append}
+use Rattle.splitting.proofs.CutFacts.{last-some, last-none, left-append, ended-append}
 use Rattle.splitting.proofs.KeepFacts.{part-more}
 use Rattle.splitting.specs.declared.state.State.the-variants.{Going, Whole}
 use Rattle.sweep.specs.declared.turn.Turn.{Turn}
@@ -116,15 +115,6 @@ module _ {chunk h : List ℕ} {t : Turn} {room : ℕ} {line out : List ℕ} {at 
       }
 
 -- ---- the last line, as if its newline had come
-last-some : (h : List ℕ) → 0 < length h → lastOf h ≡ h ∷ []
-unfolding lastOf
-last-some [] l = absurd (omega arith)
-last-some (b ∷ h) l = refl
-
-last-none : (line : List ℕ) (held : ℕ) → held ≡ 0 → lastOf (take held line) ≡ []
-unfolding lastOf
-last-none line held e = ap (λ (n : ℕ). lastOf (take n line)) e
-
 module _ (line : List ℕ) (held : ℕ) (t r : Turn) where
   pub ends-without : held ≡ 0 → r ≡ endedAs t Whole → Ended (take held line) t r
   ends-without z e =

@@ -5,12 +5,12 @@ use native.Mathlib.Omega.{arith}
 use borrow.Author.Needs.{needs}
 use lib.ListN.{length, take}
 use lib.Seq.{length-take-le}
-use Rattle.morning.proofs.PassedFacts.{last-none, last-line}
+use Rattle.morning.proofs.PassedFacts.{no-last-line, last-line}
 use Rattle.morning.proofs.serve.finish.Statement.{statement}
 use Rattle.morning.proofs.serve.finish.Tie as tie
 
 returns : tie.Need-returns
-returns c = let a = c .before .before .args in record { ended = refl; grown = last-none (a .line .now) (a .page .now) (a .held) (a .refused) (c .if1 .taken) }
+returns c = let a = c .before .before .args in record { ended = refl; grown = no-last-line (a .line .now) (a .page .now) (a .held) (a .refused) (c .if1 .taken) }
 
 sub-tally : tie.Need-sub-tally
 sub-tally c = search needs

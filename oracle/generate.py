@@ -1,20 +1,12 @@
 #!/usr/bin/env python3
-"""generate.py TEXT: makes four crates under oracle/generated/ from the Rust text in the folder TEXT (the one that holds src/amos).
+"""generate.py TEXT: makes three crates under oracle/generated/ from the Rust text in the folder TEXT (the one that holds src/amos).
 
-  text     the corrected text with each elementary call routed to libcapi.a; in utils.rs three lines put in: the rule that a pair with a not-a-number
-           part is never lost, and the routing of sin(pi x) and cos(pi x)
-  counted  the same with lines put in that count terms, rungs, backward steps and branches, and that give the refusal which docs/SCOPE.md adds
-  given    the text as given, completed and counted in the same way, with the lines put in that refuse (7) a climb without two neighbours on scale, or
-           with a zero among them: what the oracle was before E5
-  native   the text as given over std's elementary functions, with no line put in: for the speed comparisons
+  text     the text with each elementary call routed to libcapi.a; no line of it changed, and in utils.rs three lines put in: the rule that a pair with
+           a not-a-number part is never lost, and the routing of sin(pi x) and cos(pi x)
+  counted  the same with lines put in that count terms, rungs, backward steps and branches, and that give the two refusals which docs/SCOPE.md adds
+  native   the text over std's elementary functions, with no line put in: for the speed comparisons
 
-The corrected text is the text as given with every file of oracle/corrections applied, shorter names first and names of one length in order (E5 before E10);
-each is printed in a line. Counting and completing lines are only put in, each ends with the mark below, and taking them out gives the corrected or the
-given text back: that is checked here.
-
-A correction: lines that begin with # say what it does; `file NAME` names the file of the text that the blocks behind it edit; blocks end at an empty line.
-The first character of a block's line is = (kept), - (taken out) or + (put in), the rest is the line itself. The = and - lines of a block follow one
-another in the text, and must do so at exactly one place, as the blocks before have left it."""
+Lines are only put in, each ends with the mark below, and taking them out gives the text back: that is checked here."""
 import os
 import shutil
 import sys
@@ -47,8 +39,11 @@ COUNTERS = [
     (H, "                for offset in 2..=integer_order + 1 {", 0, "crate::count::rung();"),
     (R, "    for i in iter {", 0, "crate::count::rung();"),
     (R, "    for (i, yi) in y.iter_mut().enumerate().skip(2) {", 0, "crate::count::rung();"),
-    # the refusal that the project adds: a start above 256
+    # the refusals that the project adds: a start above 256, and a climb without two neighbours on scale or with a zero among them
     (H, "    let starting_k = determine_miller_starting_k(z, frac_order_sqr, order_rotation)?;", 0, "if starting_k > 256 { return Err(BesselError::LossOfSignificance); }"),
+    (H, "                let mut recovery_buffer = [T::C_ZERO; 2];", 0, "let mut recovered = false;"),
+    (H, "                            if last_good_iteration == offset - 2 {", 0, "recovered = true;"),
+    (H, "                k_v_minus_1 = recovery_buffer[buf_idx];", 0, "if !recovered || k_v == T::C_ZERO || k_v_minus_1 == T::C_ZERO { return Err(BesselError::Overflow); }"),
     # branches
     branch(P, "    if abs_z < mc.underflow_limit {", 0, 0),
     branch(P, "            if ln_leading_term.re <= -mc.exponent_limit {", 0, 2),
@@ -87,24 +82,6 @@ COUNTERS = [
     branch(G, "    if z_increment != 0 {", 0, 37),
 ]
 
-# of the text as given alone: refusal 7, for a climb without two neighbours on scale or with a zero among them
-REFUSING = [
-    (H, "                let mut recovery_buffer = [T::C_ZERO; 2];", 0, "let mut recovered = false;"),
-    (H, "                            if last_good_iteration == offset - 2 {", 0, "recovered = true;"),
-    (H, "                k_v_minus_1 = recovery_buffer[buf_idx];", 0, "if !recovered || k_v == T::C_ZERO || k_v_minus_1 == T::C_ZERO { return Err(BesselError::Overflow); }"),
-]
-
-# of the corrected text alone: a climb that hands its last values to the search; how large a tried value is, and a kept pair that is zero in both parts, in
-# the climb and in the search
-HANDING = [
-    (H, "                overflow_state = OverflowState::NearUnder;", 0, "if underflow_occurred { crate::count::branch(38); }"),
-    (H, "                            recovery_buffer[buf_idx] = trial_k_v;", 0, "if trial_k_v == T::C_ZERO { crate::count::branch(39); }"),
-    (R, "        *yi = unscaled_value;", 0, "if unscaled_value == T::C_ZERO { crate::count::branch(40); }"),
-    (R, "                *yi = unscaled_value;", 0, "if unscaled_value == T::C_ZERO { crate::count::branch(40); }"),
-    (H, "                    let ln_abs_k_v = T::HALF * k_v.norm_sqr().ln();", 0, "crate::count::tried(0, (ln_abs_k_v * T::from_f64(1000.0)).round().to_isize());"),
-    (R, "        let ln_abs_k = T::HALF * scaled_k.norm_sqr().ln();", 0, "crate::count::tried(1, (ln_abs_k * T::from_f64(1000.0)).round().to_isize());"),
-]
-
 
 def put_in(text, insertions, file):
     lines = text.split("\n")
@@ -125,50 +102,12 @@ def put_in(text, insertions, file):
     return "\n".join(out)
 
 
-def blocks(path):
-    """(file, lines of the block) for each block of the correction."""
-    file, block = None, []
-    for line in open(path, encoding="utf-8").read().split("\n") + [""]:
-        if line[:1] in ("=", "-", "+") and file:
-            block.append((line[0], line[1:]))
-        elif line.startswith("#") or not line:
-            if block:
-                yield file, block
-            block = []
-        elif line.startswith("file ") and not block and line[5:] in CARRIED:
-            file = line[5:]
-        else:
-            sys.exit(f"generate.py: {path}: not understood: {line!r}")
-
-
-def corrected(texts):
-    """The texts with every correction applied; prints a line for each, and for each file of it."""
-    texts = dict(texts)
-    folder = os.path.join(HERE, "corrections")
-    for name in sorted(os.listdir(folder), key=lambda name: (len(name), name)):
-        moved = {}
-        for file, block in blocks(os.path.join(folder, name)):
-            lines = texts[file].split("\n")
-            old = [line for sign, line in block if sign != "+"]
-            places = [i for i in range(len(lines)) if lines[i : i + len(old)] == old]
-            if not old or len(places) != 1:
-                sys.exit(f"generate.py: correction {name}: {file} has {len(places)} places with the lines {old!r}, and must have one")
-            lines[places[0] : places[0] + len(old)] = [line for sign, line in block if sign != "-"]
-            texts[file] = "\n".join(lines)
-            out, put = moved.get(file, (0, 0))
-            moved[file] = (out + sum(sign == "-" for sign, _ in block), put + sum(sign == "+" for sign, _ in block))
-        if not moved:
-            sys.exit(f"generate.py: correction {name} corrects nothing")
-        for file, (out, put) in moved.items():
-            print(f"correction {name}: {file}, {out} lines taken out, {put} put in")
-    return texts
-
-
-def crate(name, texts, insertions, num):
+def crate(name, source, insertions, num):
     top = os.path.join(HERE, "generated", name)
     shutil.rmtree(top, ignore_errors=True)
     shutil.copytree(os.path.join(HERE, "completion"), os.path.join(top, "src"))
-    for file, text in texts.items():
+    for file in CARRIED:
+        text = open(os.path.join(source, file), encoding="utf-8").read()
         path = os.path.join(top, "src", file)
         os.makedirs(os.path.dirname(path), exist_ok=True)
         open(path, "w", encoding="utf-8").write(put_in(text, insertions, file))
@@ -195,13 +134,10 @@ def main():
     source = os.path.join(sys.argv[1], "src")
     if not os.path.isfile(os.path.join(source, "amos", "mod.rs")):
         sys.exit(f"generate.py: there is no Rust text in {sys.argv[1]}")
-    given = {file: open(os.path.join(source, file), encoding="utf-8").read() for file in CARRIED}
-    mended = corrected(given)
-    crate("text", mended, COMPLETION, "num")
-    crate("counted", mended, COMPLETION + COUNTERS + HANDING, "num")
-    crate("given", given, COMPLETION + COUNTERS + REFUSING, "num")
-    crate("native", given, [], "num_std")
-    print("generated: text, counted, given, native")
+    crate("text", source, COMPLETION, "num")
+    crate("counted", source, COMPLETION + COUNTERS, "num")
+    crate("native", source, [], "num_std")
+    print("generated: text, counted, native")
 
 
 main()

@@ -1,7 +1,6 @@
 #!/usr/bin/env bash
 # make.sh [FOLDER]: builds the oracle from the Rust text in FOLDER (the one that holds src/amos); without one, from $LICHENOAR_RUST_TEXT, or from
-# ../shared/docs/src beside the repository. Prints each correction (corrections/) that it applies to the text. Ends with 3, and a line that says so,
-# where there is no text. tools/host/archive.sh must have run.
+# ../shared/docs/src beside the repository. Ends with 3, and a line that says so, where there is no text. tools/host/archive.sh must have run.
 set -eu
 cd "$(dirname "$0")"
 text=${1:-${LICHENOAR_RUST_TEXT:-../../shared/docs/src}}

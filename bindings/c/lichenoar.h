@@ -6,10 +6,9 @@
 
    A call of K or I asks for n consecutive orders v, v+1, .., v+n-1 at z = re + im*i and lends 2n cells: the real part of an entry, then its
    imaginary part. Domain: v from 0 to 1000, n from 1 to 512, re from 0 to 32768, im from -32768 to 32768. What cannot be answered is refused by a
-   number, and where several apply the first in this order is given. K: 1, 2, 3, 11, 12, 4, 6, 8. I: 1, 2, 3, 11, 12, 5, 8. Log-gamma: 2, 10, 8.
+   number, and where several apply the first in this order is given. K: 1, 2, 3, 11, 12, 4, 6, 7, 8. I: 1, 2, 3, 11, 12, 5, 8. Log-gamma: 2, 10, 8.
    A sweep: 13, 9, 1, 2, 3, 11, 12. A page: 15 alone. A refusal by K or I writes the fixed not-a-number into every cell that was lent, and its counts are 0;
-   a refused sweep leaves every byte that was lent as it was, and a refused page every cell. 7 was K's before 0.6.0: it is retired, no call gives it, and no
-   other refusal gets it. The numbers, what each says, and what to do about it:
+   a refused sweep leaves every byte that was lent as it was, and a refused page every cell. The numbers, what each says, and what to do about it:
 
      0   answered
      1   the number of orders is 0 or above 512, or the number of cells is odd; ask for 1 to 512 orders; where cells are lent, two for each
@@ -19,6 +18,7 @@
      5   the argument is too large for the power series of I; ask for modulus^2/4 - order orders or more and use the first rows; it helps to a modulus
          of 37
      6   the search for the start of the backward steps found none; no input is known that gets it; please report the frame
+     7   the climb out of underflow found no two neighbouring orders on scale; ask scaled
      8   a finished value is not finite; ask plain if it was asked scaled; else for fewer or lower orders, or farther from 0; for log-gamma below 2.55e305
      9   no frame or request: a wrong length, digit, kind or scaling; write 56 upper-case hexadecimal digits, 92 for a sweep, kind 01 or 02, scaling 00
          or 01; take carriage returns away
@@ -35,9 +35,9 @@
 #include <stdint.h>
 
 /* The version that this header came with, as words and as numbers. */
-#define LICHENOAR_VERSION "0.6.0"
+#define LICHENOAR_VERSION "0.5.0"
 #define LICHENOAR_VERSION_MAJOR 0
-#define LICHENOAR_VERSION_MINOR 6
+#define LICHENOAR_VERSION_MINOR 5
 #define LICHENOAR_VERSION_PATCH 0
 
 #ifdef __cplusplus
@@ -72,8 +72,7 @@ typedef struct lichenoar_sweep_answer {
    one: memset(&page, 0, sizeof page) makes it, and a static page begins as it. Of a page that was made by the two functions below, the cells of `numbers` add
    up to the lines read, those answered and those refused; the cells of `longest` to the answered ones; and lines read + unreadable = lines. */
 typedef struct lichenoar_page {
-    uint64_t numbers[32]; /* lines read, by their number: [0] those answered, [K] those refused by K; 0 for every K that is no refusal's number. A line with
-                             7 is counted here no more; in a page from before 0.6.0 [7] may be above 0, and a joining adds it like the others */
+    uint64_t numbers[32]; /* lines read, by their number: [0] those answered, [K] those refused by K; 0 for every K that is no refusal's number */
     uint64_t reserved;    /* 0; kept for a part that is to come */
     uint64_t longest[20]; /* answered lines, by the terms of their longest sum: from 0 to 19 */
     uint64_t rungs;       /* the rungs of the answered lines, added up. Here and below, the counts of a refused line are not added */
@@ -94,7 +93,7 @@ typedef char lichenoar_page_layout
    for the values times e^z. Unscaled values of a large re underflow: these entries are 0 and come first; `zeros` is how many.
    The record is written to *answer, and `answer` is returned. `out` must lend `length` cells; it may be any pointer, a null one too, where the length
    is 0. A length that is refused is safe: each of the cells lent is written, and no other. Refused by 1, 2, 3, 11, 12, 4,
-   6 or 8. */
+   6, 7 or 8. */
 lichenoar_answer *lichenoar_k(lichenoar_answer *answer, uint8_t scaled, double v, double re, double im, double *out, size_t length);
 
 /* I(v), .., I(v+n-1) at re + im*i, as for K: the modified Bessel function of the first kind, by its power series, which is taken for |z|*|z|/4 up to
@@ -122,7 +121,7 @@ lichenoar_sweep_answer lichenoar_sweep(uint8_t kind, uint8_t scaling, uint32_t n
    0, an empty line, it may be any pointer, a null one too.
    The line is read where every byte is one of 0 to 9 and A to F; the first 18 are there; 1 to 512 times 32 follow them if the number is 0, and none if it is
    another; the number is 0 or in the list above; and the longest sum has at most 19 terms. Nothing else is looked at: values may have any bits. Every other
-   line is counted as unreadable, an empty one, one with a carriage return and one with the number 7 too.
+   line is counted as unreadable, an empty one and one with a carriage return too.
    Gives 0, or 15 exactly when page->lines is 4294967295 or more; every cell then stands as before. Two threads must not count into one page at a time: let
    each have its own, and join them. A page that did not come from here is no trap: 15 goes by `lines` alone, and a cell that would pass 2^64 - 1 stays
    there. */

@@ -105,7 +105,7 @@ static void known(FILE *f) {
         met[text[0] == 'g' ? log_gamma(text) : bessel(text)]++;
         calls++;
     }
-    for (int number = 0; number <= 12; number++) CHECK((met[number] > 0) == (number != 6 && number != 7 && number != 9));
+    for (int number = 0; number <= 12; number++) CHECK((met[number] > 0) == (number != 6 && number != 9));
     printf("known answers and refusals: %d\n", calls);
 }
 
@@ -370,7 +370,7 @@ static unsigned value_at(size_t at, int digits) {
 static void expect(cells *c, size_t length) {
     unsigned number = value_at(0, 2), zeros = value_at(2, 4), sum = value_at(6, 4), rungs = value_at(10, 4), backward = value_at(14, 4);
     size_t more = length < HEAD ? 1 : length - HEAD;
-    int bad = number == 7 || number == 14 || number > 15 || zeros > 65535 || sum > 19 || rungs > 65535 || backward > 65535;
+    int bad = number == 14 || number > 15 || zeros > 65535 || sum > 19 || rungs > 65535 || backward > 65535;
     bad |= number == 0 ? length < HEAD || more == 0 || more % PAIR != 0 || more / PAIR > 512 : more != 0;
     for (size_t i = HEAD; !bad && i < length; i++) bad = value_at(i, 1) > 15;
     plus(c, LINES, 1);
@@ -486,8 +486,7 @@ static void every_line(cells *c) {
     plus(c, UNREADABLE, 1);
     CHECK(lichenoar_page_line(&around.page, 0, 0) == 0);
     CHECK(left(c));
-    CHECK(c->cell[0] > 1000 && c->cell[9] > 100 && c->cell[15] > 0 && c->cell[RESERVED] == 0 && c->cell[UNREADABLE] > 1000);
-    CHECK(c->cell[7] == 0 && c->cell[14] == 0);
+    CHECK(c->cell[0] > 1000 && c->cell[9] > 100 && c->cell[14] == 0 && c->cell[15] > 0 && c->cell[RESERVED] == 0 && c->cell[UNREADABLE] > 1000);
 }
 
 /* A list in three parts, joined in several orders: each gives the page of the list. */
@@ -507,11 +506,6 @@ static void joined(void) {
     CHECK(same(&a, &whole));
     a = none, join(&a, &whole), join(&a, &none);
     CHECK(same(&a, &whole));
-    /* a page from before 0.6.0, with five lines refused by 7: they are added, into it and from it, and a line with 7 is unreadable on it too */
-    a = whole, b = none, plus(&b, 7, 5), plus(&b, LINES, 5), join(&a, &b), join(&b, &whole);
-    CHECK(same(&a, &b) && whole.cell[7] == 0 && a.cell[7] == 5 && a.cell[LINES] == whole.cell[LINES] + 5);
-    count(&a, line_of(7, 0, 0, 0, 0));
-    CHECK(a.cell[7] == 5 && a.cell[UNREADABLE] == whole.cell[UNREADABLE] + 1);
 }
 
 /* Pages near their limit and of any bits: 15 goes by the lines alone, and a cell that is full stays at the largest value. */

@@ -1,5 +1,4 @@
-//! The counters that the counted copies raise, of the corrected text and of the text as given, and the branches that they pass. The other copies hold this
-//! module too and raise nothing.
+//! The counters that the counted copy raises, and the branches that it passes. The other copies hold this module too and raise nothing.
 use std::cell::Cell;
 
 pub const BRANCHES: usize = 64;
@@ -10,8 +9,6 @@ thread_local! {
     static RUNGS: Cell<u32> = const { Cell::new(0) };
     static BACKWARD: Cell<u32> = const { Cell::new(0) };
     static PASSED: Cell<u64> = const { Cell::new(0) };
-    /// in the climb out of underflow, and in the search for first orders
-    static LARGEST: [Cell<isize>; 2] = const { [Cell::new(isize::MIN), Cell::new(isize::MIN)] };
 }
 
 #[derive(Clone, Copy, Debug, PartialEq, Eq, Default)]
@@ -56,14 +53,4 @@ pub fn backward_step() {
 #[inline]
 pub fn branch(b: u32) {
     PASSED.set(PASSED.get() | 1 << b);
-}
-/// Half the logarithm of a tried value's squared modulus, in thousandths; none where it is infinite or not a number.
-#[inline]
-pub fn tried(place: usize, thousandths: Option<isize>) {
-    let l = thousandths.unwrap_or(isize::MAX);
-    LARGEST.with(|largest| largest[place].set(largest[place].get().max(l)));
-}
-/// The largest of the run so far.
-pub fn largest(place: usize) -> isize {
-    LARGEST.with(|largest| largest[place].get())
 }

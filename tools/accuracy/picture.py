@@ -119,16 +119,12 @@ def write_pictures(pictures):
         [(v / 360, str(v)) for v in (0, 50, 100, 150, 200, 250, 300, 350)],
         "|z|; white: refused, the argument is too large for the series",
     )
-    write_climb(pictures)
-
-
-def write_climb(pictures):
     across, upward = lambda re: (re - 660) / 450, lambda v: v / 1000
     write(
         "docs/plots/k_climb.svg",
         "Error of plain K where e^-re underflows, n = 1",
         [(f"K unscaled, {words}", cells(pictures[f"picture_k_climb_{name}"], across, upward, real_part_of)) for name, words in (("real_axis", "im = 0"), ("off_the_axis", "|im| to 600"))],
-        [(across(re), str(re)) for re in (665, 701, 800, 900, 1000, 1100)],
+        [(across(re), str(re)) for re in (665, 701, 800, 900, 1000, 1073, 1101)],
         [(upward(v), str(v)) for v in range(0, 1001, 200)],
-        "re",
+        "re; white: refused, no two neighbouring orders on scale",
     )

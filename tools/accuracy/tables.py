@@ -135,14 +135,15 @@ def worst_inputs(regions, kind):
     yield "|" + "---|" * 7
     for key, r in regions.items():
         if key.startswith(kind + "_") and r.errors[0]:
-            ours, text = (place(errors[-1]) if errors else None for errors in r.errors[:2])
+            ours, text = place(r.errors[0][-1]), place(r.errors[1][-1])
             yield f"| {words_of(key)} | {'both' if ours == text else 'ours'} | {ours} |"
-            if text and ours != text:
+            if ours != text:
                 yield f"| | text | {text} |"
 
 
 FAR = {
     "far_holes": "I with holes, n = 417",
+    "far_subnormal_seeds": "K from subnormal seeds",
     "far_zero": "K given as 0",
     "far_subnormal_order": "K at a subnormal order",
 }

@@ -1,6 +1,5 @@
 #!/usr/bin/env python3
-"""scan.py: the three random scans whose figures docs/DIFFERENCES.md gives, through the program that run.sh FORTRAN built. Each has its own seed. How far it is stands on standard error.
-The row `before` is the text as given with refusal 7, which is what stood here before E5."""
+"""scan.py: the three random scans whose figures docs/DIFFERENCES.md gives, through the program that run.sh FORTRAN built. Each has its own seed. How far it is stands on standard error."""
 import math
 import os
 import random
@@ -16,13 +15,13 @@ PROGRAM = os.path.join(os.path.dirname(os.path.abspath(__file__)), "../../target
 
 
 def run(calls):
-    """For each (scaled, n, v, re, im): the rows by name, each a verdict and its printed entries."""
+    """For each (scaled, n, v, re, im): the rows `644` and `here`, each a verdict and its printed entries."""
     lines = "".join(f"K {s} {2 * n} " + " ".join(struct.pack(">d", x).hex() for x in rest) + "\n" for s, n, *rest in calls)
     rows = []
     for line in subprocess.run([PROGRAM], input=lines, capture_output=True, text=True, check=True).stdout.split("\n"):
         if line.startswith("K "):
             rows.append({})
-        elif m := re.match(r"  (given|before|text|644|here)\s+(.*)", line):
+        elif m := re.match(r"  (given|text|644|here)\s+(.*)", line):
             rows[-1][m[1]] = row = (m[2], [])
         elif m := re.match(r"        \[\d+\] ([0-9A-F]{16}) \S+ ([0-9A-F]{16})", line):
             row[1].append(tuple(struct.unpack(">d", bytes.fromhex(x))[0] for x in m.groups()))
@@ -56,28 +55,9 @@ def anywhere():
     return scaled, n, float(v), 0.0 if abs(a) == math.pi / 2 else size * math.cos(a), size * math.sin(a)
 
 
-def seven(row):
-    return row["before"][0] == "refusal 7"
-
-
-def apart(one, other):
-    """The largest distance of two rows' printed entries, by the second's modulus; infinite where one alone is zero."""
-    worst = 0.0
-    for a, b in zip(one[1], other[1]):
-        if a != b:
-            worst = max(worst, abs(complex(*a) - complex(*b)) / abs(complex(*b)) if any(a) and any(b) else math.inf)
-    return worst
-
-
 tell("60,000 calls anywhere")
 random.seed(11)
-rows = [row for _, row in run([anywhere() for _ in range(60000)])]
-answered = [row for row in rows if refused(row) == 0]
-print("60,000 calls anywhere:", len(answered), "answered,", sum(zeros(row["here"]) > 0 for row in answered), "with zeros; another count than 644:", sum(zeros(row["here"]) != zeros(row["644"]) for row in answered))
-mended = [row for row in rows if seven(row)]
-valued = [row for row in mended if zeros(row["here"]) == 0]
-print("    7 before:", len(mended), "now answered", sum(refused(row) == 0 for row in mended), "with zeros", len(mended) - len(valued), "values alone", len(valued), "another count than 644:", sum(zeros(row["here"]) != zeros(row["644"]) for row in mended))
-print("    largest distance of the printed entries from 644's there:", max(apart(row["here"], row["644"]) for row in mended))
+print("refusal 7, 60,000 calls anywhere:", Counter("zeros" if zeros(row["644"]) else "values alone" for _, row in run([anywhere() for _ in range(60000)]) if refused(row) == 7))
 
 tell("3,000 calls of large orders near underflow")
 random.seed(7)
@@ -85,27 +65,21 @@ calls = []
 for _ in range(3000):
     v, x = random.uniform(850, 1000), random.uniform(1020, 1130)
     calls.append((0, 1, v, x, random.choice([0.0, 10 ** random.uniform(-20, 0), random.uniform(-3, 3), random.uniform(-1000, 1000)])))
-tally, errors, zeroed, other = Counter(), {"before": [], "here": []}, [], 0
+tally, off = Counter(), []
 for place, (c, row) in enumerate(run(calls)):
     if place % 500 == 499:
         tell(f"{place + 1} of {len(calls)}")
-    tally["7 before" if seven(row) else "answered before"] += 1
-    tally[f"number {refused(row)}"] += 1
-    other += zeros(row["here"]) != zeros(row["644"])
-    mp.dps = 60
-    true = k(mpf(c[2]), mpc(c[3], c[4]), 1)[0]
-    for side in errors:
-        if row[side][1] and any(row[side][1][0]):
-            errors[side].append((float(abs(mpc(*row[side][1][0]) - true) / abs(true)), c))
-    if row["here"][1] == [(0.0, 0.0)]:
-        zeroed.append((float(mp.log10(abs(true))), c))
-print("large orders near underflow, 3,000 calls:", dict(tally), "another count than 644:", other)
-for side, found in errors.items():
-    off = [entry for entry in found if entry[0] > 1e-9]
-    print("   ", side, len(found), "values, worst", max(found), "above 1e-9:", len(off))
-    for name, i in (("v", 2), ("re", 3), ("im", 4)) if off else ():
-        print("       ", name, min(abs(c[i]) for _, c in off), max(abs(c[i]) for _, c in off))
-print("    zeros now:", len(zeroed), "the largest in truth 10^%.2f" % max(zeroed)[0], max(zeroed)[1])
+    number = refused(row)
+    tally["refused 7" if number == 7 else f"number {number}"] += 1
+    if number == 0:
+        mp.dps = 60
+        true = k(mpf(c[2]), mpc(c[3], c[4]), 1)[0]
+        error = float(abs(mpc(*row["here"][1][0]) - true) / abs(true))
+        if error > 1e-9:
+            off.append((error, c))
+print("large orders near underflow, 3,000 calls:", dict(tally), "off", len(off), "worst", max(off), "|im| above 0.001:", sum(abs(c[4]) > 1e-3 for _, c in off))
+for name, i in (("v", 2), ("re", 3), ("im", 4)):
+    print("   ", name, min(abs(c[i]) for _, c in off), max(abs(c[i]) for _, c in off))
 
 tell("20,000 calls at |z| near 1e-308")
 random.seed(3)

@@ -254,8 +254,7 @@ def shows():
         "  order -Infinity                  Infinity                 -Infinity i", ""]), "")
     for number, said in frame.refusals().items():
         shown_as(b"%02X" % number + b"0" * 16, [], 0, f"frame 1: refusal {number}: {said}\n", "")
-    # 7 is retired
-    for number in (7, 14, 99, 200, 255):
+    for number in (99, 200, 255):
         shown_as(b"%02X" % number + b"0" * 16 + b"\n", [], 0, f"frame 1: refusal {number}, not known here\n", "")
     shown_as(b"04" + b"0" * 16 + b"\nC8" + b"0" * 16 + b"\n" + WHOLE.encode() + b"\n", ["0.25"], 0,
              f"frame 1: refusal 4: {frame.refusals()[4]}\nframe 2: refusal 200, not known here\nframe 3: {text}", "")

@@ -130,8 +130,6 @@ def whole_pages():
          ["<0.01 %", "0.01 %", ">99.99 %", ">99.99 %", "100.00 %", "0.00 %"], "the test's own shares")
     status, out, _ = showing(paged(refused=[(1, 3)]))
     same((status, out.split("\n")[-4:]), (0, ["  not on this page: 5, 8, 12", "", "answered: none", ""]), "none answered")
-    status, out, _ = showing(paged(refused=[(1, 3), (7, 2), (8, 0)]))
-    same((status, "  refusal 7  2   40.00 %" in out, "    refusal 7, not known here\n" in out), (0, True, True), "a page from before 7 was retired")
     status, out, _ = showing(paged(unreadable=COUNTS))
     same((status, out.split("\n")[0], "refused: none" in out, "answered: none" in out), (0, "morning page: 4,294,967,295 lines", True, True), "none readable")
 
@@ -768,7 +766,7 @@ def night_line(drawn, numbers):
         return (struct.pack(">BhHHH", 0, *record) + drawn.randbytes(16 * drawn.choice((1, 1, 2, 3, 512)))).hex().upper().encode()
     if kind < 8:
         return struct.pack(">BhHHH", drawn.choice(numbers), *record).hex().upper().encode()
-    return drawn.choice((b"", b"no answer", 18 * b"0", b"C8" + 16 * b"0", b"07" + 16 * b"0", b"0" * 49, b"0000000014" + 40 * b"0", 50 * b"0" + b"\r", b"ab" + b"0" * 48,
+    return drawn.choice((b"", b"no answer", 18 * b"0", b"C8" + 16 * b"0", b"0" * 49, b"0000000014" + 40 * b"0", 50 * b"0" + b"\r", b"ab" + b"0" * 48,
                          b"05" + b"0" * 48))
 
 

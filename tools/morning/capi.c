@@ -1,6 +1,6 @@
 /* lichenoar_page_line and lichenoar_page_join of libcapi.a against expected.h. capi NIGHT COUNT SEED: every line of the file, in turn on one page and each on
-   a page of any bits; that page joined with one from before 7 was retired; then COUNT rounds: bytes cut from the file, three runs of its lines joined in every
-   order, pages of any bits joined in every order, and now and then pages of as many lines as a page takes. The number, every cell, the page joined from, and what lies around are compared. A failure is told and
+   a page of any bits; then COUNT rounds: bytes cut from the file, three runs of its lines joined in every order, pages of any bits joined in every order, and
+   now and then pages of as many lines as a page takes. The number, every cell, the page joined from, and what lies around are compared. A failure is told and
    the program ends with 1; the last line says how many calls there were. */
 #include "expected.h"
 #include "splitmix.h"
@@ -154,17 +154,6 @@ static void bytes_cut(uint64_t *state, size_t bytes) {
     line_on(&page, night + at, 0);
 }
 
-/* A page from before 7 was retired: joining adds its lines refused by 7, into it and from it, and none of ours has any. A line with 7 is unreadable on each. */
-static void older_joined(const Lent *ours) {
-    static const uint8_t line[] = "070000000000000000";
-    Lent older = clean, into = *ours;
-    older.wanted.cell[NUMBERS + 7] = older.wanted.cell[LINES] = 3;
-    memcpy(&older.page, &older.wanted, sizeof older.page);
-    must(join(&into, &older) == 0 && join(&older, ours) == 0 && same(&older, &into.wanted), "an older page is joined, into it and from it");
-    must(ours->page.numbers[7] == 0 && into.page.numbers[7] == 3, "the counter of 7 is the older page's");
-    must(line_on(&into, line, 18) == 0 && into.page.numbers[7] == 3 && into.page.unreadable == ours->page.unreadable + 1, "a line with 7 is unreadable");
-}
-
 /* A page of all the lines that a page takes, and what may be joined with it: an empty one alone. One line fewer, and a line or a page of one more is taken. */
 static void at_the_limit(Lent *full, Lent *less, Lent *one, const Lent *two, const Lent *half, Text text) {
     Lent empty = clean, other = *full;
@@ -229,7 +218,6 @@ int main(int words, char **word) {
         line_on(&all, texts[i].at, texts[i].length);
         line_elsewhere(&page, texts[i]);
     }
-    older_joined(&all);
     for (unsigned long i = 0; i < count; i++) {
         const Lent three[3] = {any_page(&state), any_page(&state), any_page(&state)};
         bytes_cut(&state, bytes);

@@ -7,7 +7,7 @@ import re
 import sys
 
 # the numbers of docs/refusals.txt, to which run.sh holds them
-NUMBERS = (*range(1, 7), *range(8, 14), 15)
+NUMBERS = (*range(1, 14), 15)
 TERMS = range(20)
 MOST_LINES = 4294967295
 LINE = re.compile(

@@ -92,10 +92,10 @@ class Night:
 
     # ---- damaged
     def a_number_not_listed(self):
-        return self.head(self.pick((7, 14, 16, 17, 31, 32, 128, 240, 255, self.pick(UNLISTED))))
+        return self.head(self.pick((14, 16, 17, 31, 32, 128, 240, 255, self.pick(UNLISTED))))
 
     def a_number_not_listed_with_pairs(self):
-        return self.head(self.pick((7, 14, 16, self.pick(UNLISTED)))) + self.cells(32 * self.pairs())
+        return self.head(self.pick((14, 16, self.pick(UNLISTED)))) + self.cells(32 * self.pairs())
 
     def answered_with_too_long_a_sum(self):
         return self.head(0, self.pick((20, self.pick(TOO_LONG_SUMS), 20 + self.below(65516)))) + self.cells(32 * self.pairs())

@@ -33,7 +33,7 @@ static inline int expected_read(const uint8_t *line, size_t length, uint32_t *fi
             if (digit_value(line[at]) > 15) return 0;
             fields[i] = 16 * fields[i] + digit_value(line[at]);
         }
-    if (fields[0] == 7 || fields[0] == 14 || fields[0] > 15 || fields[2] >= 20) return 0;
+    if (fields[0] == 14 || fields[0] > 15 || fields[2] >= 20) return 0;
     if (fields[0] != 0) return length == 18;
     for (; at < length; at++)
         if (digit_value(line[at]) > 15) return 0;

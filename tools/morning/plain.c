@@ -12,7 +12,7 @@
 enum { HEAD = 18, PAIR = 32, MOST_PAIRS = 512, MOST_DIGITS = HEAD + PAIR * MOST_PAIRS, MOST_TERMS = 19, NUMBERS = 16, BLOCK = 1 << 16 };
 static const uint64_t most_lines = 4294967295u;
 /* 0, and the numbers of docs/refusals.txt */
-static const uint8_t listed[NUMBERS] = {1, 1, 1, 1, 1, 1, 1, 0, 1, 1, 1, 1, 1, 1, 0, 1};
+static const uint8_t listed[NUMBERS] = {1, 1, 1, 1, 1, 1, 1, 1, 1, 1, 1, 1, 1, 1, 0, 1};
 /* the value of a digit; NONE of any other byte, which no shift makes fit a field */
 static const uint32_t NONE = 0x10000;
 static uint32_t digit[256];

@@ -25,7 +25,7 @@ TURNS = {
         ("a cell judged, K and I", (8, 0, 0, 0, 0), 8, 1.3, 2),
     ],
     "x86-64": [
-        ("a rung of the climb", (24, 20, 0, 4, 0), 4, 28.25, 1),
+        ("a rung of the climb", (24, 20, 0, 4, 0), 4, 27.75, 1),
         ("a rung of the fill", (24, 20, 0, 4, 8), 4, 30, 1),
         ("a backward step of Miller's", (22, 24, 2, 0, 0), 2, 41, 1),
         ("a term of Temme's, order whole", (26, 22, 2, 2, 0), 1, 77, 1),

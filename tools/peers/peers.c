@@ -1,15 +1,54 @@
 /* Times lichenoar_k and lichenoar_i beside the Fortran kernels of Algorithm 644 (ZBKNU, ZSERI) on the workloads of docs/PERFORMANCE.md: the same arguments, in one process, interleaved,
    A run is the best of many rounds. peers [ROUNDS [RUNS]] prints a table, the least / the median / the largest of several runs in each cell; with --inputs W it prints the arguments of a workload
    as hexadecimal patterns instead, for times.py. */
-#include "../../bench/workloads.h"
 #include "../../bindings/c/lichenoar.h"
 #include "../accuracy/small_644.h"
+#include "../host/splitmix.h"
 #include <stdio.h>
 #include <stdlib.h>
 #include <string.h>
 #include <time.h>
 
 enum { ARGUMENTS = 2048, LONG = 64, WORKLOADS = 6, MOST_RUNS = 99 };
+
+typedef struct {
+    double v, re, im;
+} ask;
+
+static uint64_t state;
+
+static uint64_t raw(void) { return splitmix64(&state); }
+
+static double unit(void) { return (double)(raw() >> 11) * 0x1p-53; }
+
+static ask point(double v, double r) {
+    double a, b, q;
+    do {
+        a = unit();
+        b = 2.0 * unit() - 1.0;
+        q = a * a + b * b;
+    } while (!(q > 0.0 && q <= 1.0));
+    q = r / sqrt(q);
+    return (ask){v, a * q, b * q};
+}
+
+static ask next(char w) {
+    double v, m;
+    switch (w) {
+    case 'a':
+        v = (double)(-7 + (int)(raw() % 13));
+        m = ldexp(1.0 + unit(), (int)v);
+        return (ask){0.0, m, m};
+    case 'b':
+    case 'B':
+        v = 50.0 * unit();
+        return point(v, 0.1 + 49.9 * unit());
+    case 'c':
+        return point(1000.0, 1700.0 + 1300.0 * unit());
+    default:
+        return point(0.0, 2.0 * unit());
+    }
+}
 
 static double now(void) {
     struct timespec t;
@@ -27,7 +66,7 @@ static void workload(char w, int n, int rounds, double best[2]) {
     best[0] = best[1] = 1e300;
     lichenoar_answer answer;
     state = 0x6B65727600000000u + (unsigned char)w;
-    for (int i = 0; i < count; i++) asks[i] = of_workload(w);
+    for (int i = 0; i < count; i++) asks[i] = next(w);
     for (int r = 0; r < rounds; r++) {
         double begun = now(), ended;
         for (int i = 0; i < count; i++) {
@@ -65,7 +104,7 @@ int main(int argc, char **argv) {
     if (argc == 3 && !strcmp(argv[1], "--inputs")) {
         state = 0x6B65727600000000u + (unsigned char)argv[2][0];
         for (int i = 0; i < ARGUMENTS; i++) {
-            ask q = of_workload(argv[2][0]);
+            ask q = next(argv[2][0]);
             uint64_t b[3];
             memcpy(b, &q, sizeof b);
             printf("%016llX %016llX %016llX\n", (unsigned long long)b[0], (unsigned long long)b[1], (unsigned long long)b[2]);

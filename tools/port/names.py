@@ -14,7 +14,7 @@ WORD = re.compile(r"(?<![A-Za-z0-9_'])[a-z_][A-Za-z0-9_]*[a-z0-9][A-Z][A-Za-z0-9
 
 
 def snake(word):
-    return re.sub(r"(?<=[a-z0-9])[A-Z]", lambda m: "_" + m.group(0).lower(), word).replace("__", "_")
+    return re.sub(r"(?<=[a-z0-9])[A-Z]|(?<=[a-z0-9][A-Z])[A-Z](?=[a-z])", lambda m: "_" + m.group(0).lower(), word)
 
 
 def files(root):

@@ -129,7 +129,7 @@ def of_order():
             yield Edit("order", f"the order of {giver}", path, rf"(?P<a>{named})(?P<b>\d+)(?P<c>, )(?P<d>\d+)(?=[, ]|\n)", swapped)
             yield Edit("order", f"the order of {giver} without its first", path, rf"(?P<a>{named})\d+, (?=\d)", r"\g<a>")
             yield Edit("order", f"no order of {giver}", path, rf"{named}(?=\d+, )", "")
-    for last in ("6", "5"):
+    for last in ("6, 7", "5"):
         behind = rf"(?P<a>Refused by (?:\d+,\s+)*)(?P<b>11)(?P<c>, )(?P<d>12)(?=,\s+(?:4,\s+)?{last} or 8\.)"
         yield Edit("order", f"what refuses, to {last} or 8", "bindings/c/lichenoar.h", behind, swapped)
     yield Edit("order", "what refuses a sweep", "bindings/c/lichenoar.h", r"(?P<a>Refused by )(?P<b>13)(?P<c>,\s+)(?P<d>9)(?=,)", swapped)

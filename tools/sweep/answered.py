@@ -10,7 +10,7 @@ import sys
 TOP = os.path.abspath(os.path.join(os.path.dirname(__file__), "..", ".."))
 STEPS = 4096
 # what a call can be refused by when the order, the count and the argument lie within the limits
-LATER = {4, 5, 6, 8}
+LATER = {4, 5, 6, 7, 8}
 # from 0, where K is infinite, and to where the series of I is not taken
 SWEEPS = {
     "K": (1, 1, 2, 0.25, (0.0, 0.0), (30.0, -20.0)),

@@ -17,7 +17,7 @@ NUMBERS = (
     + [f"T{i}" for i in range(1, 11)]
     + ["F1", "F2"]
     + [f"X{i}" for i in range(1, 6)]
-    + ["E1", "E2", "E4", "E5"]
+    + ["E1", "E2", "E4"]
 )
 
 

@@ -55,10 +55,10 @@ def i_budget(n, exponent, answer):
 def k_call(v, n, scaled):
     re, im = point(modulus())
     if random.random() < 0.3:
-        re, im = random.uniform(664, 1700), random.choice((random.uniform(-32768, 32768), 2.0 ** random.uniform(-60, 10)))
+        re, im = random.uniform(664, 1200), random.choice((random.uniform(-32768, 32768), 2.0 ** random.uniform(-60, 10)))
     if re > 32768 or abs(im) > 32768:
         return None
-    return f"k {scaled} {word(v)} {word(re)} {word(im)} {n}", lambda a: k_budget(v, math.hypot(re, im), re, im, n, scaled, a) if a[0] in (0, 8) else None
+    return f"k {scaled} {word(v)} {word(re)} {word(im)} {n}", lambda a: k_budget(v, math.hypot(re, im), re, im, n, scaled, a) if a[0] in (0, 7, 8) else None
 
 
 def i_call(v, n, scaled):

@@ -52,7 +52,7 @@ static struct call draw_k(double v, unsigned n) {
     case 3: c.re = between(0, 60), c.im = between(-60, 60); break;
     case 4: c.re = 0, c.im = either_sign(between(0, 60)); break;
     case 5: c.re = between(0, 32768), c.im = between(-32768, 32768); break;
-    case 6: c.scaled = 0, c.re = between(664, 1700), c.im = either_sign(by_exponent(-60, 10)); break;
+    case 6: c.scaled = 0, c.re = between(664, 1200), c.im = either_sign(by_exponent(-60, 10)); break;
     case 7: c.scaled = 0, c.re = between(664, 710), c.im = either_sign(by_exponent(-60, 3)); break;
     case 8: c.scaled = 0, c.re = between(664, 32768), c.im = between(-32768, 32768); break;
     case 9: c.scaled = 0, c.re = between(664, 720), c.im = between(-32768, 32768); break;

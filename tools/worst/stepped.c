@@ -1,6 +1,5 @@
 /* A second count of instructions, without valgrind: a child makes each call of a file while its parent steps the processor one instruction at a time (Linux, aarch64 and x86-64).
-   stepped FILE prints each call's instructions from the entry of the library's function to its return. Slow: some 10 microseconds an instruction. Link it with -Wl,-z,now, as count.py
-   does: else the first call of memset is looked up and counted too. */
+   stepped FILE prints each call's instructions from the entry of the library's function to its return. Slow: some 10 microseconds an instruction. */
 #define _GNU_SOURCE
 #include "calls.h"
 #include <signal.h>

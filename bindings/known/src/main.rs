@@ -15,7 +15,7 @@ fn value(word: &str) -> f64 {
 }
 
 fn main() {
-    println!("# Answers of the corrected Rust text to the calls of calls.txt, printed by bindings/known. Kind, scaled, bits of v, re, im, cells lent; then number, zeros,");
+    println!("# Answers of the Rust text to the calls of calls.txt, printed by bindings/known. Kind, scaled, bits of v, re, im, cells lent; then number, zeros,");
     println!("# longest sum, rungs, backward steps, and every cell of an answer. Of a refusal every cell is 7FF8000000000000. g is log-gamma: argument, number, value.");
     for line in include_str!("../calls.txt").lines() {
         let words: Vec<&str> = line.split('#').next().unwrap_or("").split_whitespace().collect();

@@ -193,23 +193,22 @@ pub fn i(order: f64, z: Complex, scaling: Scaling) -> Result<Complex, Refusal> {
 ///
 /// # Errors
 /// [`Refusal::Length`], [`NotFinite`](Refusal::NotFinite), [`Order`](Refusal::Order), [`Sign`](Refusal::Sign), [`Size`](Refusal::Size),
-/// [`Zero`](Refusal::Zero), [`Start`](Refusal::Start) or [`Overflow`](Refusal::Overflow), the first that applies. Every entry of the slice is then the fixed
-/// not-a-number in both parts.
+/// [`Zero`](Refusal::Zero), [`Start`](Refusal::Start), [`Climb`](Refusal::Climb) or [`Overflow`](Refusal::Overflow), the first that applies. Every entry of
+/// the slice is then the fixed not-a-number in both parts.
 ///
 /// ```
 /// use lichenoar::{k_into, Complex, Refusal, Scaling};
 ///
 /// let z = Complex::from(800.0);
 /// let mut out = [Complex::ZERO; 2];
-/// // e^-800 is below every f64: two zeros, and the count says so; of orders 1 and 2 as well
+/// // e^-800 is below every f64: two zeros, and the count says so
 /// assert_eq!(k_into(z, 0.0, Scaling::Unscaled, &mut out)?.zeros, 2);
-/// assert_eq!((k_into(z, 1.0, Scaling::Unscaled, &mut out)?.zeros, out), (2, [Complex::ZERO; 2]));
 /// // scaled, the values are there
 /// assert_eq!(k_into(z, 0.0, Scaling::Scaled, &mut out)?.zeros, 0);
 /// assert_eq!(out[0].re, 0.04430442748664601);
 ///
 /// // refused: the slice holds nothing that could be taken for a value
-/// assert_eq!(k_into(Complex::ZERO, 1.0, Scaling::Unscaled, &mut out), Err(Refusal::Zero));
+/// assert_eq!(k_into(z, 1.0, Scaling::Unscaled, &mut out), Err(Refusal::Climb));
 /// assert!(out.iter().all(|w| w.re.to_bits() == 0x7FF8_0000_0000_0000 && w.im.to_bits() == 0x7FF8_0000_0000_0000));
 /// # Ok::<(), Refusal>(())
 /// ```

@@ -60,7 +60,7 @@ impl Page {
     ///
     /// The line is read where every byte is one of 0 to 9 and A to F, the first 18 are there, 1 to 512 times 32 follow them if the number is 0 and none if
     /// it is another, the number is 0 or in the list of [refusals](Refusal), and the longest sum has at most 19 terms. Every other line is counted as
-    /// unreadable, an empty one, one with a carriage return and one with the number 7 too, which is retired. Of a refused line no count is added to a total.
+    /// unreadable, an empty one and one with a carriage return too. Of a refused line no count is added to a total.
     ///
     /// # Errors
     /// [`Refusal::Full`] where the page holds [`MOST_LINES`](Page::MOST_LINES) already. It then stays as it was.
@@ -72,8 +72,7 @@ impl Page {
     /// page.line(b"090000000000000000")?;
     /// page.line(b"090000000000000000\r")?;
     /// page.line(b"")?;
-    /// page.line(b"070000000000000000")?;
-    /// assert_eq!((page.refused(9), page.unreadable()), (1, 3));
+    /// assert_eq!((page.refused(9), page.unreadable()), (1, 2));
     /// # Ok::<(), lichenoar::Refusal>(())
     /// ```
     pub fn line(&mut self, line: &[u8]) -> Result<(), Refusal> {
@@ -118,8 +117,7 @@ impl Page {
         self.numbers[0]
     }
 
-    /// The lines that were refused by this number. 0 for a number that no line is refused by, and for 0, which is an answer's. For 7, which is retired, those
-    /// of pages from before 0.6.0 that were joined.
+    /// The lines that were refused by this number. 0 for a number that no line is refused by, and for 0, which is an answer's.
     #[must_use]
     pub fn refused(&self, number: u32) -> u64 {
         match number {

@@ -1,8 +1,8 @@
 use core::error::Error;
 use core::fmt;
 
-/// Why a call has no answer. Where several apply, the first in this order is given. K: 1, 2, 3, 11, 12, 4, 6, 8. I: 1, 2, 3, 11, 12, 5, 8.
-/// Log-gamma: 2, 10, 8. A sweep: 13, 9, 1, 2, 3, 11, 12. A page: 15 alone. 7 was K's before 0.6.0: it is retired, and no other refusal gets it.
+/// Why a call has no answer. Where several apply, the first in this order is given. K: 1, 2, 3, 11, 12, 4, 6, 7, 8. I: 1, 2, 3, 11, 12, 5, 8.
+/// Log-gamma: 2, 10, 8. A sweep: 13, 9, 1, 2, 3, 11, 12. A page: 15 alone.
 ///
 /// [`words`](Refusal::words) says what was met and [`remedy`](Refusal::remedy) what to do about it, as docs/refusals.txt of the repository has them and the
 /// C header and the shift's scripts say them.
@@ -55,6 +55,8 @@ pub enum Refusal {
     Series,
     /// 6: K, and the search for the start of the backward steps found none. No input is known that gets it.
     Start,
+    /// 7: unscaled K with a real part above 664.87, and the climb out of underflow found no two neighbouring orders on scale.
+    Climb,
     /// 8: a finished value is not finite.
     Overflow,
     /// 9: a line that is no frame, or no request of a sweep; a kind or a scaling that no frame has. The programs give it, and the sweep's function in C;
@@ -70,7 +72,7 @@ pub enum Refusal {
     Steps,
     /// 15: a line more for a page that holds 4,294,967,295 lines, or two pages joined that hold more together.
     Full,
-    /// A number that this version of the crate does not know, from a newer archive; or 7, which an archive of before 0.6.0 may give.
+    /// A number that this version of the crate does not know, from a newer archive.
     Other(u32),
 }
 
@@ -83,8 +85,6 @@ impl Refusal {
     /// assert_eq!(Refusal::from_number(5), Some(Refusal::Series));
     /// assert_eq!(Refusal::from_number(0), None);
     /// assert_eq!(Refusal::from_number(200).unwrap().to_string(), "refusal 200: not known here");
-    /// // retired
-    /// assert_eq!(Refusal::from_number(7), Some(Refusal::Other(7)));
     /// ```
     #[must_use]
     pub const fn from_number(number: u32) -> Option<Refusal> {
@@ -96,6 +96,7 @@ impl Refusal {
             4 => Refusal::Zero,
             5 => Refusal::Series,
             6 => Refusal::Start,
+            7 => Refusal::Climb,
             8 => Refusal::Overflow,
             9 => Refusal::Malformed,
             10 => Refusal::NotPositive,
@@ -117,6 +118,7 @@ impl Refusal {
             Refusal::Zero => 4,
             Refusal::Series => 5,
             Refusal::Start => 6,
+            Refusal::Climb => 7,
             Refusal::Overflow => 8,
             Refusal::Malformed => 9,
             Refusal::NotPositive => 10,
@@ -138,6 +140,7 @@ impl Refusal {
             Refusal::Zero => "K of 0 is infinite",
             Refusal::Series => "the argument is too large for the power series of I",
             Refusal::Start => "the search for the start of the backward steps found none",
+            Refusal::Climb => "the climb out of underflow found no two neighbouring orders on scale",
             Refusal::Overflow => "a finished value is not finite",
             Refusal::Malformed => "no frame or request: a wrong length, digit, kind or scaling",
             Refusal::NotPositive => "log-gamma of 0 or less",
@@ -152,11 +155,13 @@ impl Refusal {
     /// What to do about it, in words.
     ///
     /// ```
-    /// use lichenoar::{k, Complex, Scaling};
+    /// use lichenoar::{k_into, Complex, Scaling};
     ///
-    /// let refusal = k(1.0, Complex::new(-1.0, 2.0), Scaling::Unscaled).unwrap_err();
-    /// assert_eq!(refusal.remedy(), "ask at real parts of 0 or more; -0 counts as 0");
-    /// assert!(k(1.0, Complex::new(-0.0, 2.0), Scaling::Unscaled).is_ok());
+    /// let z = Complex::from(800.0);
+    /// let mut out = [Complex::ZERO; 2];
+    /// let refusal = k_into(z, 1.0, Scaling::Unscaled, &mut out).unwrap_err();
+    /// assert_eq!(refusal.remedy(), "ask scaled");
+    /// assert!(k_into(z, 1.0, Scaling::Scaled, &mut out).is_ok());
     /// ```
     #[must_use]
     pub const fn remedy(self) -> &'static str {
@@ -167,6 +172,7 @@ impl Refusal {
             Refusal::Zero => "ask at an argument other than 0",
             Refusal::Series => "ask for modulus^2/4 - order orders or more and use the first rows; it helps to a modulus of 37",
             Refusal::Start => "no input is known that gets it; please report the frame",
+            Refusal::Climb => "ask scaled",
             Refusal::Overflow => "ask plain if it was asked scaled; else for fewer or lower orders, or farther from 0; for log-gamma below 2.55e305",
             Refusal::Malformed => "write 56 upper-case hexadecimal digits, 92 for a sweep, kind 01 or 02, scaling 00 or 01; take carriage returns away",
             Refusal::NotPositive => "ask above 0",

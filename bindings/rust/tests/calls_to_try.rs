@@ -88,9 +88,7 @@ fn unscaled_k_at_800() {
     assert_eq!(k_into(z, 0.0, Unscaled, &mut out).map(|a| a.zeros), Ok(2));
     assert_eq!(out, [Complex::ZERO; 2]);
     assert_eq!(k_into(z, 1.0, Unscaled, &mut out[..1]).map(|a| a.zeros), Ok(1));
-    out = [RUBBISH; 2];
-    assert_eq!(counts(k_into(z, 1.0, Unscaled, &mut out)), Ok((2, 0, 1, 6)));
-    assert_eq!(out, [Complex::ZERO; 2]);
+    assert_eq!(k_into(z, 1.0, Unscaled, &mut out), Err(Refusal::Climb));
 }
 
 #[test]

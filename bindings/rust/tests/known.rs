@@ -63,7 +63,7 @@ fn every_known_answer_and_every_refusal() {
             met.insert((words[0], bessel(&words)));
         }
     }
-    assert_eq!((calls, odd), (88, 2));
-    let all = [("g", [0, 2, 8, 10].as_slice()), ("i", &[0, 1, 2, 3, 5, 11, 12]), ("k", &[0, 1, 2, 3, 4, 8, 11, 12])];
+    assert_eq!((calls, odd), (86, 2));
+    let all = [("g", [0, 2, 8, 10].as_slice()), ("i", &[0, 1, 2, 3, 5, 11, 12]), ("k", &[0, 1, 2, 3, 4, 7, 8, 11, 12])];
     assert_eq!(met, all.iter().flat_map(|(kind, numbers)| numbers.iter().map(move |n| (*kind, *n))).collect());
 }

@@ -123,7 +123,7 @@ fn the_empty_page() {
     assert_eq!(held::<&[u8]>(&[]), Page::new());
     let full = page_of(&[line(0, 1, 1, 1, 1, 32), line(9, 0, 0, 0, 0, 0), Vec::new()]);
     assert_ne!(full, Page::new());
-    for beyond in [7, 14, 16, 31, 32, 255, 256, u32::MAX] {
+    for beyond in [14, 16, 31, 32, 255, 256, u32::MAX] {
         assert_eq!((full.refused(beyond), full.longest(beyond.max(20))), (0, 0));
     }
     assert_eq!((full.refused(0), full.answered(), full.refused(9), full.longest(1)), (0, 1, 1, 1));
@@ -195,8 +195,6 @@ fn every_number_and_every_count() {
     for number in 0..256 {
         assert_eq!(page.refused(number), u64::from(numbers().contains(&number)), "{number}");
     }
-    // 7 is retired: every line with it is unreadable
-    assert_eq!((page.refused(7), held(&[line(7, 0, 0, 0, 0, 0), line(7, 1, 2, 3, 4, 0)]).unreadable()), (0, 2));
     // 0 is the answer's, and then it has entries
     assert_eq!(Refusal::from_number(0), None);
     for place in 0..4 {
@@ -233,7 +231,7 @@ fn every_length() {
 fn drawn_lines() {
     let lines = Draws(2).lines(50_000);
     let page = held(&lines);
-    assert!(page.answered() > 10_000 && page.unreadable() > 10_000 && numbers().iter().all(|&n| page.refused(n) > 300), "{page:?}");
+    assert!(page.answered() > 10_000 && page.unreadable() > 10_000 && (1..=13).all(|n| page.refused(n) > 300) && page.refused(15) > 300, "{page:?}");
     assert!((0..20).all(|terms| page.longest(terms) > 300), "{page:?}");
     // in any order
     let backwards: Vec<&Vec<u8>> = lines.iter().rev().collect();

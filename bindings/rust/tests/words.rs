@@ -48,8 +48,7 @@ fn each_refusal_says_the_words_of_the_list() {
 #[test]
 fn a_number_beyond_the_list() {
     assert_eq!(Refusal::from_number(0), None);
-    // 7 is retired
-    for number in [7, 14, 200, 255, u32::MAX] {
+    for number in [200, 255, u32::MAX] {
         let refusal = Refusal::from_number(number).unwrap();
         assert_eq!((refusal, refusal.number()), (Refusal::Other(number), number));
         assert_eq!(refusal.to_string(), format!("refusal {number}: not known here"));

@@ -6,7 +6,7 @@ use Prim.Native.Nat.{ℕ}
 use lib.IntN.{pos}
 use lib.ListN.{drop, replicate}
 use lib.Ieee.{Float}
-use Rattle.machine.specs.Constants.{not_aNumber}
+use Rattle.machine.specs.Constants.{not_a_number}
 use Rattle.cells.specs.AllFinite.{all_finite}
 use Rattle.refusal.specs.Number.{number_of}
 use Rattle.refusal.specs.declared.refusal.Refusal.{Refusal}
@@ -27,7 +27,7 @@ pub record RefusedWhole (length : ℕ) (o : Outcome) : Type 0 where
   pub longest-sum : o.answer.longest_sum ≡ 0
   pub rungs : o.answer.rungs ≡ 0
   pub backward : o.answer.backward ≡ 0
-  pub cells : o.cells ≡ replicate length not_aNumber
+  pub cells : o.cells ≡ replicate length not_a_number
 
 pub refused-facts : (length : ℕ) (r : Refusal) → RefusedWhole length (refused_outcome r length)
 unfolding refused_outcome refused_of

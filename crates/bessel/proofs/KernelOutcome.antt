@@ -10,7 +10,7 @@ use lib.Dec.{T}
 use lib.ListN.{drop, take, replicate, length-replicate}
 use lib.ListN.{length as length-of}
 use lib.Ieee.{Float, binary64, of_bits}
-use Rattle.machine.specs.Constants.{not_aNumber}
+use Rattle.machine.specs.Constants.{not_a_number}
 use Rattle.cells.specs.AllFinite.{all_finite}
 use Rattle.refusal.specs.declared.refusal.Refusal.TheVariants as refusals
 use Rattle.refusal.proofs.Distinct.{never-zero}
@@ -27,24 +27,26 @@ use Rattle.right_half_plane.specs.Ground.{nearest_order, ground_of}
 use Rattle.right_half_plane.specs.Seeds.{seed_of}
 use Rattle.right_half_plane.proofs.Answers.{Answers, kernel-answers, kernel-terms}
 use Rattle.right_half_plane.proofs.Delivered.{Delivers, kernel-delivers}
-use Rattle.right_half_plane.specs.Refusals.{start_refused}
-use Rattle.right_half_plane.proofs.RefusalFacts.{refuses, start-exactly}
+use Rattle.right_half_plane.specs.Refusals.{start_refused, climb_refused}
+use Rattle.right_half_plane.proofs.RefusalFacts.{refuses, start-exactly, climb-exactly}
 use Rattle.bessel.specs.declared.arguments.Arguments.{Arguments}
 use Rattle.bessel.specs.Arguments.{arguments_of}
 use Rattle.bessel.specs.Checks.{argument_checks, k_own_checks, kChecks}
 use Rattle.bessel.specs.Outcome.{Outcome, Delivered, refused_outcome, judged_of, concluded_of}
-use Rattle.bessel.specs.K.{kernel_by, counts_answer, kernel_steps, kSteps, kOutcome, ground_by, kernel_checks, all_kChecks}
+use Rattle.bessel.specs.K.{kernel_by, counts_answer, kernel_steps, kSteps, kOutcome, ground_by, kernel_checks, all_k_checks}
 use Rattle.bessel.proofs.CheckFacts.{k-passed}
 use Rattle.bessel.proofs.CallFacts.{judged-number, RefusedWhole, refused-facts, Ended, refused, answered, ends, numbered}
 
--- ---- how the kernel's steps end: refusal 6, or an answer
+-- ---- how the kernel's steps end: refusal 6, 7, or neither
 data EndsWith (o : kernels.Ending) : Type 0 where
   by_answer : (counts : Counts) → o ≡ ended.Answered counts → EndsWith o
   by-start : o ≡ ended.Refused refusals.Start → EndsWith o
+  by-climb : o ≡ ended.Refused refusals.Climb → EndsWith o
 
 ends_with : (n : ℕ) (o : kernels.Ending) (cells : List Float) → Delivers n o cells → EndsWith o
 ends_with n (ended.Answered counts) cells h = by_answer counts refl
-ends_with n (ended.Refused refusal) cells e = by-start (ap ended.Refused e)
+ends_with n (ended.Refused refusal) cells (inl e) = by-start (ap ended.Refused e)
+ends_with n (ended.Refused refusal) cells (inr e) = by-climb (ap ended.Refused e)
 
 kernel-ends : (scaled : Bool) (a : Arguments) (length : ℕ) → EndsWith (kernel_by scaled a length).ending
 unfolding kernel_by
@@ -55,17 +57,18 @@ counts-number : (c : Counts) → (counts_answer c).number ≡ 0
 unfolding counts_answer answered_of
 counts-number c = refl
 
--- with refusal 6 by its own words
+-- with refusals 6 and 7 by their own words
 later-by :
-    (length : ℕ) (o : kernels.Ending) (cells : List Float) (b : Bool) → b ≡ refuses refusals.Start o → EndsWith o →
-    number_given (verdict_of (check b refusals.Start ∷ check (not (all_finite cells)) refusals.Overflow ∷ [])) ≡ (concluded_of length (kernel_steps o cells)).answer.number
+    (length : ℕ) (o : kernels.Ending) (cells : List Float) (b c : Bool) → b ≡ refuses refusals.Start o → c ≡ refuses refusals.Climb o → EndsWith o →
+    number_given (verdict_of (check b refusals.Start ∷ check c refusals.Climb ∷ check (not (all_finite cells)) refusals.Overflow ∷ [])) ≡ (concluded_of length (kernel_steps o cells)).answer.number
 unfolding verdict_of verdict_from refused_if number_given kernel_steps concluded_of judged_of refused_outcome refused_of
-later-by length o cells b p (by_answer counts e) = rw (p, e) (judged-number (all_finite cells) length (counts_answer counts) cells (counts-number counts))
-later-by length o cells b p (by-start e) = rw (p, e)
+later-by length o cells b c p q (by_answer counts e) = rw (p, q, e) (judged-number (all_finite cells) length (counts_answer counts) cells (counts-number counts))
+later-by length o cells b c p q (by-start e) = rw (p, q, e)
+later-by length o cells b c p q (by-climb e) = rw (p, q, e)
 
 -- the numbers that K can give besides 0, in the order of the checks
-pub listed : (scaled : Bool) (a : Arguments) (length : ℕ) → numbers_of (all_kChecks scaled a length) ≡ 1 ∷ 2 ∷ 3 ∷ 11 ∷ 12 ∷ 4 ∷ 6 ∷ 8 ∷ []
-unfolding numbers_of all_kChecks kChecks k_own_checks argument_checks length_checks finite_checks limit_checks kernel_checks
+pub listed : (scaled : Bool) (a : Arguments) (length : ℕ) → numbers_of (all_k_checks scaled a length) ≡ 1 ∷ 2 ∷ 3 ∷ 11 ∷ 12 ∷ 4 ∷ 6 ∷ 7 ∷ 8 ∷ []
+unfolding numbers_of all_k_checks kChecks k_own_checks argument_checks length_checks finite_checks limit_checks kernel_checks
 listed scaled a length = refl
 
 -- an answer: the checks are passed, and the record and the cells are the kernel's
@@ -105,24 +108,25 @@ delivery (ended.Refused r) l answer from cells e = absurd (let z : ◌≡◌ {A 
 
 module _ (scaled : Bool) (v re im : Float) (length : ℕ) where
   -- the number, exactly when, and no other than the list's
-  pub numbers : Given (all_kChecks scaled (arguments_of v re im) length) (kOutcome scaled v re im length).answer.number
-  unfolding all_kChecks kernel_checks ground_by kernel_by kOutcome kSteps
+  pub numbers : Given (all_k_checks scaled (arguments_of v re im) length) (kOutcome scaled v re im length).answer.number
+  unfolding all_k_checks kernel_checks ground_by kernel_by kOutcome kSteps
   numbers =
       let a = arguments_of v re im in
       let k = kernel_by scaled a length in
       let g = ground_by a length in
       numbered (kChecks a length) (kernel_checks scaled a length) length (kernel_steps k.ending k.cells)
-      (later-by length k.ending k.cells (start_refused g) (start-exactly scaled a.order a.z a.modulus (length / 2)) (kernel-ends scaled a length))
+      (later-by length k.ending k.cells (start_refused g) (climb_refused g scaled)
+      (start-exactly scaled a.order a.z a.modulus (length / 2)) (climb-exactly scaled a.order a.z a.modulus (length / 2)) (kernel-ends scaled a length))
 
   -- so no number but these
-  pub admitted : T (is_one_of (kOutcome scaled v re im length).answer.number (0 ∷ 1 ∷ 2 ∷ 3 ∷ 11 ∷ 12 ∷ 4 ∷ 6 ∷ 8 ∷ []))
+  pub admitted : T (is_one_of (kOutcome scaled v re im length).answer.number (0 ∷ 1 ∷ 2 ∷ 3 ∷ 11 ∷ 12 ∷ 4 ∷ 6 ∷ 7 ∷ 8 ∷ []))
   admitted =
       let a = arguments_of v re im in
-      none-or-listed (all_kChecks scaled a length) (kOutcome scaled v re im length).answer.number (1 ∷ 2 ∷ 3 ∷ 11 ∷ 12 ∷ 4 ∷ 6 ∷ 8 ∷ []) numbers (listed scaled a length)
+      none-or-listed (all_k_checks scaled a length) (kOutcome scaled v re im length).answer.number (1 ∷ 2 ∷ 3 ∷ 11 ∷ 12 ∷ 4 ∷ 6 ∷ 7 ∷ 8 ∷ []) numbers (listed scaled a length)
 
   -- 3, 11 and 12 by the limit that was hit
   pub limits : let a = arguments_of v re im in HitsLimit length a.order a.z.re a.z.im (kOutcome scaled v re im length).answer.number
-  unfolding all_kChecks kChecks k_own_checks argument_checks kernel_checks length_checks finite_checks limit_checks numbers_of
+  unfolding all_k_checks kChecks k_own_checks argument_checks kernel_checks length_checks finite_checks limit_checks numbers_of
   limits =
       let a = arguments_of v re im in
       hits-limit length a.order a.z.re a.z.im (k_own_checks a ++ kernel_checks scaled a length) (kOutcome scaled v re im length).answer.number numbers refl refl refl
@@ -169,7 +173,7 @@ module _ (scaled : Bool) (v re im : Float) (length : ℕ) where
   pub cells-length : length-of (kOutcome scaled v re im length).cells ≡ length
   cells-length =
       elim whole [
-        | inl r ↦ ap length-of r.cells ∙ length-replicate length not_aNumber
+        | inl r ↦ ap length-of r.cells ∙ length-replicate length not_a_number
         | inr w ↦
             let l = lent length (k-passed (arguments_of v re im) length w.passed).lent in
             ap length-of w.cells ∙ (delivered w).1 ∙ omega arith

@@ -10,7 +10,7 @@ use lib.IntN.{nat_abs}
 use lib.ListN.{drop, length-replicate}
 use lib.ListN.{length as length-of}
 use lib.Ieee.{Float}
-use Rattle.machine.specs.Constants.{not_aNumber}
+use Rattle.machine.specs.Constants.{not_a_number}
 use Rattle.cells.specs.AllFinite.{all_finite}
 use Rattle.refusal.proofs.Distinct.{never-zero}
 use Rattle.call.specs.declared.answer.Answer.{Answer}
@@ -133,7 +133,7 @@ module _ (scaled turned : Bool) (v re im : Float) (length : ℕ) where
   unfolding visited_by
   cells-length =
       elim whole [
-        | inl r ↦ ap length-of r.cells ∙ length-replicate length not_aNumber
+        | inl r ↦ ap length-of r.cells ∙ length-replicate length not_a_number
         | inr a ↦
             let b = arguments_of v re im in
             let l = lent length (series-passed b length a.passed).0.lent in

@@ -1,6 +1,6 @@
 -- What a call of K gives. Definitions only.
 use Rattle.std.specs.Prelude.{Bool, false, not, List, [], ◌∷◌, ◌++◌, ℕ, ◌/◌, ◌≤◌, Float}
-use Rattle.refusal.specs.declared.refusal.Refusal.TheVariants.{Start, Overflow}
+use Rattle.refusal.specs.declared.refusal.Refusal.TheVariants.{Start, Climb, Overflow}
 use Rattle.cells.specs.AllFinite.{all_finite}
 use Rattle.right_half_plane.specs.declared.kernel.Counts.{Counts}
 use Rattle.right_half_plane.specs.declared.kernel.Ending as kernels
@@ -8,7 +8,7 @@ use Rattle.right_half_plane.specs.declared.kernel.Ending.TheVariants as ended
 use Rattle.right_half_plane.specs.declared.ground.Ground.{Ground}
 use Rattle.right_half_plane.specs.Ground.{ground_of}
 use Rattle.right_half_plane.specs.Kernel.{Kernel, kernel_of}
-use Rattle.right_half_plane.specs.Refusals.{start_refused}
+use Rattle.right_half_plane.specs.Refusals.{start_refused, climb_refused}
 use Rattle.call.specs.declared.answer.Answer.{Answer}
 use Rattle.call.specs.Answer.{signed_of, answered_of}
 use Rattle.call.specs.Checks.{Check, check}
@@ -38,18 +38,19 @@ kOutcome scaled v re im length =
     let a = arguments_of v re im in
     call_outcome (kChecks a length) length (kSteps scaled a length)
 
--- ---- all checks, those that the steps answer too: 6 and 8 are the last
+-- ---- all checks, those that the steps answer too: 6, 7 and 8 are the last
 unfoldable pub ground_by : Arguments → ℕ → Ground
 ground_by a length = ground_of a.order a.z a.modulus (length / 2)
 
 unfoldable pub kernel_checks : Bool → Arguments → ℕ → List Check
 kernel_checks scaled a length =
     check (start_refused (ground_by a length)) Start
+    ∷ check (climb_refused (ground_by a length) scaled) Climb
     ∷ check (not (all_finite (kernel_by scaled a length).cells)) Overflow
     ∷ []
 
-unfoldable pub all_kChecks : Bool → Arguments → ℕ → List Check
-all_kChecks scaled a length = kChecks a length ++ kernel_checks scaled a length
+unfoldable pub all_k_checks : Bool → Arguments → ℕ → List Check
+all_k_checks scaled a length = kChecks a length ++ kernel_checks scaled a length
 
 -- zeros that a count of the record can hold
 abbrev pub Fewer : kernels.Ending → Type 0

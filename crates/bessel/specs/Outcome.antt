@@ -1,6 +1,6 @@
 -- The outcome of a call on a buffer of so many cells: what it returns, and what every cell then holds. Definitions only.
 use Rattle.std.specs.Prelude.{Bool, true, false, List, ℕ, drop, replicate, Float}
-use Rattle.machine.specs.Constants.{not_aNumber}
+use Rattle.machine.specs.Constants.{not_a_number}
 use Rattle.cells.specs.AllFinite.{all_finite}
 use Rattle.refusal.specs.declared.refusal.Refusal.{Refusal}
 use Rattle.refusal.specs.declared.refusal.Refusal.TheVariants.{Overflow}
@@ -16,7 +16,7 @@ pub record Outcome : Type 0 where
 
 -- a refusal fills every cell with the fixed not-a-number
 unfoldable pub refused_outcome : Refusal → ℕ → Outcome
-refused_outcome refusal length = record { answer = refused_of refusal; cells = replicate length not_aNumber }
+refused_outcome refusal length = record { answer = refused_of refusal; cells = replicate length not_a_number }
 
 -- refusal 8: a cell of a finished entry is not finite. The finished entries are those from the cell `from` on.
 unfoldable pub judged_if : Bool → ℕ → Answer → List Float → Outcome

@@ -29,7 +29,7 @@ use Rattle.power_series.proofs.VisitSums.{Wanted, walk_after}
 use Rattle.bessel.specs.Arguments.{arguments_of}
 use Rattle.bessel.specs.Series.{all_series_checks, series_outcome, visited_by, visit_checks}
 use Rattle.bessel.specs.I.{iOutcome}
-use Rattle.bessel.specs.K.{ground_by, all_kChecks, kOutcome, kernel_by, kernel_checks}
+use Rattle.bessel.specs.K.{ground_by, all_k_checks, kOutcome, kernel_by, kernel_checks}
 use Rattle.bessel.specs.declared.arguments.Arguments.{Arguments}
 use Rattle.bessel.proofs.CallFacts.{RefusedWhole}
 use Rattle.bessel.proofs.SeriesOutcome as i
@@ -41,11 +41,13 @@ use Rattle.bessel.proofs.OffHalf.{NeitherZero, off-half}
 use Rattle.bessel.specs.Checks.{kChecks, argument_checks, k_own_checks, series_own_checks, series_checks}
 use Rattle.right_half_plane.specs.ByMiller.{is_half}
 use Rattle.bessel.proofs.LogGammas.{Asked as LogGammaAsked, answered-log-gammas-end, Seeding, seeding, recurring}
+use Rattle.right_half_plane.specs.declared.ground.Ground.{Ground}
 use Rattle.right_half_plane.specs.Ground.{ground_of, nearest_order}
 use Rattle.right_half_plane.specs.Kernel.{kernel_of}
-use Rattle.right_half_plane.specs.Refusals.{start_refused}
-use Rattle.right_half_plane.proofs.RefusalFacts.{refuses, start-exactly}
-use Rattle.refusal.specs.declared.refusal.Refusal.TheVariants.{Start, Length, NotFinite, Order, Sign, Size, Zero, Series, Overflow}
+use Rattle.right_half_plane.specs.Reach.{steps_of}
+use Rattle.right_half_plane.specs.Refusals.{start_refused, climb_refused, no_neighbours, climb_end}
+use Rattle.right_half_plane.proofs.RefusalFacts.{refuses, start-exactly, climb-exactly, all-offsets}
+use Rattle.refusal.specs.declared.refusal.Refusal.TheVariants.{Start, Climb, Length, NotFinite, Order, Sign, Size, Zero, Series, Overflow}
 use Rattle.series_step.specs.declared.setting.Setting.{Setting}
 use Rattle.series_step.specs.declared.descent.Descent.{Descent}
 use Rattle.series_step.specs.Step.{step_of}
@@ -92,7 +94,6 @@ use Rattle.frame.proofs.AskingFacts.{other_length}
 use Rattle.answering.proofs.LineFacts.{asked-line}
 use Rattle.answering.proofs.LengthRefused.{length-called, too_many}
 use Rattle.claims.proofs.Steps.{OfSteps, of_steps}
-use Rattle.claims.proofs.Climbs.{OfClimb, of-climb}
 use Rattle.claims.proofs.Complexes.{OfComplex, of-complex}
 use Rattle.claims.proofs.LogGammaNumbers.{no_other, no_value, exported-numbers}
 use Rattle.power_series.specs.Series.{beyond_series}
@@ -124,11 +125,11 @@ pub record OfK : Type 0 where
   pub one-outcome : (scaled : Bool) (v re im : Float) (length : ℕ) → let o = kOutcome scaled v re im length in Determined (Gives o.answer o.cells)
   -- each number exactly when its check is the first that applies, 0 exactly when none does; 3, 11 and 12 by the limit that was hit; no number but those of the list
   pub number : (scaled : Bool) (v re im : Float) (length : ℕ) → NumberOfK scaled v re im length (kOutcome scaled v re im length).answer.number
-  pub listed : (scaled : Bool) (a : Arguments) (length : ℕ) → numbers_of (all_kChecks scaled a length) ≡ 1 ∷ 2 ∷ 3 ∷ 11 ∷ 12 ∷ 4 ∷ 6 ∷ 8 ∷ []
+  pub listed : (scaled : Bool) (a : Arguments) (length : ℕ) → numbers_of (all_k_checks scaled a length) ≡ 1 ∷ 2 ∷ 3 ∷ 11 ∷ 12 ∷ 4 ∷ 6 ∷ 7 ∷ 8 ∷ []
   -- the list itself: the conditions in their order, over the call's own arguments and steps
   pub table :
       (scaled : Bool) (a : Arguments) (length : ℕ) →
-      all_kChecks scaled a length
+      all_k_checks scaled a length
       ≡ check (not (length_inside length)) Length
       ∷ check (not (are_finite a.order a.z.re a.z.im)) NotFinite
       ∷ check (not (order_inside a.order)) Order
@@ -136,13 +137,16 @@ pub record OfK : Type 0 where
       ∷ check (not (size_inside a.z.re a.z.im)) Size
       ∷ check (is_zero a.z.re a.z.im) Zero
       ∷ check (start_refused (ground_by a length)) Start
+      ∷ check (climb_refused (ground_by a length) scaled) Climb
       ∷ check (not (all_finite (kernel_by scaled a length).cells)) Overflow
       ∷ []
   -- an order or a real part of -0 is first made +0
   pub zero-order : (scaled : Bool) (v re im : Float) (length : ℕ) → eq v nothing ≡ true → kOutcome scaled v re im length ≡ kOutcome scaled nothing re im length
   pub zero-part : (scaled : Bool) (v re im : Float) (length : ℕ) → eq re nothing ≡ true → kOutcome scaled v re im length ≡ kOutcome scaled v nothing im length
-  -- the words of 6 are true of a call's steps exactly where the kernel ends so
+  -- the words of 6 and of 7 are true of a call's steps exactly where the kernel ends so; without two neighbours every offset was climbed
   pub six : (scaled : Bool) (order : Float) (z : Complex) (modulus : Float) (n : ℕ) → start_refused (ground_of order z modulus n) ≡ refuses Start (kernel_of scaled order z modulus n).ending
+  pub seven : (scaled : Bool) (order : Float) (z : Complex) (modulus : Float) (n : ℕ) → climb_refused (ground_of order z modulus n) scaled ≡ refuses Climb (kernel_of scaled order z modulus n).ending
+  pub all-offsets : (g : Ground) (first second : Complex) → no_neighbours (climb_end g first second) ≡ true → (climb_end g first second).rungs ≡ steps_of g
   -- refused, with the fixed not-a-number in every cell and counts of zero; or answered by the defined steps
   pub whole :
       (scaled : Bool) (v re im : Float) (length : ℕ) →
@@ -173,7 +177,7 @@ pub record OfK : Type 0 where
       is_half (ground_by (arguments_of v re im) length).fraction ≡ false → NeitherZero (arguments_of v re im) length
 
 of-k : OfK
-unfolding all_kChecks kChecks k_own_checks argument_checks length_checks finite_checks limit_checks kernel_checks
+unfolding all_k_checks kChecks k_own_checks argument_checks length_checks finite_checks limit_checks kernel_checks
 of-k = record {
   one-outcome = λ scaled v re im length. let o = kOutcome scaled v re im length in one-outcome o.answer o.cells;
   number = number-of-k;
@@ -182,6 +186,8 @@ of-k = record {
   zero-order = λ scaled v re im length. k-order scaled false v re im length;
   zero-part = λ scaled v re im length. k-part scaled false v re im length;
   six = start-exactly;
+  seven = climb-exactly;
+  all-offsets = all-offsets;
   whole = k.whole;
   refused = k.refused-whole;
   answered = k.answered-whole;
@@ -393,7 +399,7 @@ pub record OfLines : Type 0 where
   pub i-number :
       (line : List ℕ) (a : Asking) → parsed_of line ≡ Asked a → a.kind ≡ I →
       NumberOfSeries a.scaled false a.v a.re a.im (a.count * 2) (number_of (take byte_width (answer_line_of line)))
-  pub no_other : (line : List ℕ) → T (is_one_of (number_of (take byte_width (answer_line_of line))) (0 ∷ 9 ∷ 1 ∷ 2 ∷ 3 ∷ 11 ∷ 12 ∷ 4 ∷ 5 ∷ 6 ∷ 8 ∷ []))
+  pub no_other : (line : List ℕ) → T (is_one_of (number_of (take byte_width (answer_line_of line))) (0 ∷ 9 ∷ 1 ∷ 2 ∷ 3 ∷ 11 ∷ 12 ∷ 4 ∷ 5 ∷ 6 ∷ 7 ∷ 8 ∷ []))
   pub malformed : (line : List ℕ) → let number = number_of (take byte_width (answer_line_of line)) in (number ≡ 9 → parsed_of line ≡ Malformed) × (parsed_of line ≡ Malformed → number ≡ 9)
   -- 18 digits, and 32 more a pair behind the number 0
   pub refused-length : (line : List ℕ) → ((outcome_of (parsed_of line)).answer.number ≡ 0 → ⊥) → length-of (answer_line_of line) ≡ record_length
@@ -441,7 +447,6 @@ pub record Claims : Type 0 where
   pub of-series : OfSeries
   pub of-i : OfI
   pub of_steps : OfSteps
-  pub of-climb : OfClimb
   pub of-log-gamma : OfLogGamma
   pub of-routines : OfRoutines
   pub of-complex : OfComplex
@@ -460,7 +465,6 @@ claims = record {
   of-series = of-series;
   of-i = of-i;
   of_steps = of_steps;
-  of-climb = of-climb;
   of-log-gamma = of-log-gamma;
   of-routines = of-routines;
   of-complex = of-complex;

@@ -3,7 +3,6 @@ pub mod Determined
 pub mod Routines
 pub mod Complexes
 pub mod Steps
-pub mod Climbs
 pub mod Numbers
 pub mod LogGammaNumbers
 pub mod Rows

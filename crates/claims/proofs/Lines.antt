@@ -86,13 +86,13 @@ one_of_all P m (x ∷ xs) w t = by (eqb x m) refl t (one_of_all P m xs (and_r (P
 
 -- 0, the program's 9, and what K and I can give
 abbrev pub line_numbers : List ℕ
-line_numbers = 0 ∷ 9 ∷ 1 ∷ 2 ∷ 3 ∷ 11 ∷ 12 ∷ 4 ∷ 5 ∷ 6 ∷ 8 ∷ []
+line_numbers = 0 ∷ 9 ∷ 1 ∷ 2 ∷ 3 ∷ 11 ∷ 12 ∷ 4 ∷ 5 ∷ 6 ∷ 7 ∷ 8 ∷ []
 
 called-listed : (kind : Kind) (a : Asking) (n : ℕ) → T (is_one_of (called_as kind a n).answer.number line_numbers)
 unfolding called_as iOutcome all_of
 called-listed K a n =
     let m = (kOutcome a.scaled a.v a.re a.im n).answer.number in
-    one_of_all (λ x. is_one_of x line_numbers) m (0 ∷ 1 ∷ 2 ∷ 3 ∷ 11 ∷ 12 ∷ 4 ∷ 6 ∷ 8 ∷ []) tt (number-of-k a.scaled a.v a.re a.im n).no_other
+    one_of_all (λ x. is_one_of x line_numbers) m (0 ∷ 1 ∷ 2 ∷ 3 ∷ 11 ∷ 12 ∷ 4 ∷ 6 ∷ 7 ∷ 8 ∷ []) tt (number-of-k a.scaled a.v a.re a.im n).no_other
 called-listed I a n =
     let m = (iOutcome a.scaled a.v a.re a.im n).answer.number in
     one_of_all (λ x. is_one_of x line_numbers) m (0 ∷ 1 ∷ 2 ∷ 3 ∷ 11 ∷ 12 ∷ 5 ∷ 8 ∷ []) tt (number-of-series a.scaled false a.v a.re a.im n).no_other

@@ -30,7 +30,7 @@ pub record OfSteps : Type 0 where
   pub search : (rule : Rule) (base_order : Float) (two_over_z : Complex) (i : ℕ) (s : Search) → (search_step rule base_order two_over_z i s).rungs ≡ s.rungs + 1
   pub first : (argument : Complex) (order : Float) (n : ℕ) (a b two_over_z : Complex) → Counted n (first_orders argument order n a b two_over_z)
   pub first-and-fill : (n : ℕ) (r : FirstOrders) → Counted n r → r.rungs + (n - (r.zeros + 2)) ≡ n - 2
-  -- the climb out of underflow resumes two offsets behind the rungs that it climbed, or has climbed them all
+  -- the climb out of underflow resumes two offsets behind the rungs that it climbed
   pub resumes : (fraction : Float) (two_over_z z : Complex) (steps : ℕ) (a b : Complex) → Resumes steps (recover_of fraction two_over_z z steps a b)
   -- Miller's backward steps are as many as the start
   pub backward-real : (x distance : Float) (start : ℕ) → (real_steps x distance start).steps ≡ start

@@ -1,7 +1,7 @@
 -- What is known of a line that is read, and the page of one line. Assumes nothing.
 use mathlib.Core.Path.{◌≡◌, refl, sym, ap, ◌∙◌}
 use mathlib.Core.Logic.{◌⊎◌, inl, inr}
-use mathlib.Core.Bool.{Bool, true, false, cond, not, ◌&&◌, ◌||◌}
+use mathlib.Core.Bool.{Bool, true, false, cond, ◌&&◌, ◌||◌}
 use mathlib.Core.List.{List, [], ◌∷◌}
 use Prim.Native.Nat.{ℕ, ◌+◌, ◌≤◌, ◌<◌}
 use native.Mathlib.Omega.{arith}
@@ -28,8 +28,8 @@ either false b e = inr e
 pub listed-few : (n : ℕ) → is_listed n ≡ true → (0 < n) × (n < numbers)
 unfolding is_listed
 listed-few n e =
-    elim (either ((ltb 0 n && leb n 13) && not (eqb n 7)) (eqb n 15) e) [
-      | inl k ↦ let t = both (ltb 0 n) (leb n 13) (both (ltb 0 n && leb n 13) (not (eqb n 7)) k).0 in let low = ltb-true 0 n t.0 in let high = leb-true n 13 t.1 in (omega arith, omega arith)
+    elim (either (ltb 0 n && leb n 13) (eqb n 15) e) [
+      | inl k ↦ let t = both (ltb 0 n) (leb n 13) k in let low = ltb-true 0 n t.0 in let high = leb-true n 13 t.1 in (omega arith, omega arith)
       | inr k ↦ let q = eqb-true n 15 k in (omega arith, omega arith)
     ]
 

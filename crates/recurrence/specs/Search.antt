@@ -11,7 +11,7 @@ use Rattle.exponential.specs.Exp.{exp_of}
 use Rattle.complex.specs.declared.number.Complex.{Complex}
 use Rattle.complex.specs.Arithmetic.{times_real, minus_real}
 use Rattle.recurrence.specs.Rung.{factor_of, next_of}
-use Rattle.recurrence.specs.Trial.{ln_magnitude, later_trial}
+use Rattle.recurrence.specs.Trial.{ln_magnitude, reaches_limit, later_trial}
 use Rattle.recurrence.specs.declared.trial.Trial.{Trial}
 use Rattle.recurrence.specs.declared.search.Search.{Search}
 use Rattle.recurrence.specs.declared.search.Rule.{Rule}
@@ -26,11 +26,11 @@ abbrev pub search_at : Complex → Complex → Complex → Trial → Trial → S
 search_at argument older newer before latest =
     record { older = older; newer = newer; argument = argument; before = before; latest = latest; rungs = 0 }
 
--- ---- the rule of lowering, after a value that was not kept, whether or not the exponent that e^-z leaves reached the limit; l is ½ ln of its
--- squared modulus. First orders: above half the limit (zkscl.f, label 25). Out of underflow: not below it (zbknu.f, label 263)
-unfoldable pub is_lowered : Rule → Float → Bool
-is_lowered FirstOrders l = lt (half ⊗ exponent_limit) l
-is_lowered OutOfUnderflow l = not (lt l (half ⊗ exponent_limit))
+-- ---- the rule of lowering, after a value that was not kept; l is ½ ln of its squared modulus
+-- first orders: above half the limit. Out of underflow: at half the limit or more, and only where the exponent that e^-z leaves reached the limit
+unfoldable pub is_lowered : Rule → Complex → Float → Bool
+is_lowered FirstOrders argument l = lt (half ⊗ exponent_limit) l
+is_lowered OutOfUnderflow argument l = reaches_limit argument l && not (lt l (half ⊗ exponent_limit))
 
 -- by e^-700.92.. (ELM), and the argument's real part by 700.92..; 2/z stays that of the argument asked for
 unfoldable pub lowered_of : Search → Search
@@ -47,7 +47,7 @@ lowered_of s =
 
 -- a value that was kept stays as it is
 unfoldable pub after_trial : Rule → Float → Search → Search
-after_trial rule l s = cond s.latest.kept s (cond (is_lowered rule l) (lowered_of s) s)
+after_trial rule l s = cond s.latest.kept s (cond (is_lowered rule s.argument l) (lowered_of s) s)
 
 -- one rung, to the order of the base plus i + 1, and its trial
 unfoldable pub search_step : Rule → Float → Complex → ℕ → Search → Search

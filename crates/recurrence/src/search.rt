@@ -5,7 +5,7 @@ ghost use Rattle.std.specs.Prelude.{◌≡◌, ◌+◌, ◌<◌, ◌^◌};
 ghost use Rattle.recurrence.specs.Search.{is_found, search_at, is_lowered, lowered_of, after_trial, search_step, search_from};
 
 use crate::rung::next_value;
-use crate::trial::{Trial, later_trial, ln_magnitude};
+use crate::trial::{Trial, later_trial, ln_magnitude, reaches_limit};
 use complex::number::Complex;
 use exponential::exp::exp;
 use machine::constants::Machine;
@@ -60,13 +60,18 @@ pub fn search_at(
 }
 
 // The rule of lowering, after a value that was not kept: the one place where the two searches differ.
-fn is_lowered(rule: Rule, l: f64) -> bool
-    ensures { result ≡ is_lowered rule l }
+fn is_lowered(rule: Rule, argument: Complex, l: f64) -> bool
+    ensures { result ≡ is_lowered rule argument l }
 {
     let half_limit = 0.5 * Machine::EXPONENT_LIMIT;
     match rule {
         Rule::FirstOrders => l > half_limit,
-        Rule::OutOfUnderflow => !(l < half_limit),
+        Rule::OutOfUnderflow => {
+            if reaches_limit(argument, l) {
+                return !(l < half_limit);
+            }
+            false
+        }
     }
 }
 
@@ -92,11 +97,12 @@ fn lowered(s: Search) -> Search
 fn after_trial(rule: Rule, l: f64, s: Search) -> Search
     ensures { result ≡ after_trial rule l s }
 {
+    let argument = s.argument;
     let latest = s.latest;
     if latest.kept {
         return s;
     }
-    if is_lowered(rule, l) {
+    if is_lowered(rule, argument, l) {
         return lowered(s);
     }
     s

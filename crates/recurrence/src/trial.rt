@@ -32,7 +32,7 @@ pub fn ln_magnitude(w: Complex) -> f64
 }
 
 // the exponent that e^-z leaves reaches the limit: a not-a-number does not
-fn reaches_limit(z: Complex, l: f64) -> bool
+pub fn reaches_limit(z: Complex, l: f64) -> bool
     ensures { result ≡ reaches_limit z l }
 {
     -z.re + l >= -Machine::EXPONENT_LIMIT

@@ -7,12 +7,12 @@ use lib.Dec.{lit<}
 use lib.ListN.{get_or}
 use Rattle.refusal.specs.Number.{number_of, is_listed}
 use Rattle.refusal.specs.declared.refusal.Refusal.{Refusal}
-use Rattle.refusal.specs.declared.refusal.Refusal.TheVariants.{Length, NotFinite, Order, Zero, Series, Start, Overflow, Malformed, NotPositive}
+use Rattle.refusal.specs.declared.refusal.Refusal.TheVariants.{Length, NotFinite, Order, Zero, Series, Start, Climb, Overflow, Malformed, NotPositive}
 use Rattle.refusal.specs.declared.refusal.Refusal.TheVariants.{Sign, Size, Steps, Full}
 
--- the refusals at their numbers; no refusal has the number 0, 7 or 14
+-- the refusals at their numbers; no refusal has the number 0 or 14
 unfoldable pub case_of : ℕ → Refusal
-case_of n = get_or (Length ∷ Length ∷ NotFinite ∷ Order ∷ Zero ∷ Series ∷ Start ∷ Start ∷ Overflow ∷ Malformed ∷ NotPositive ∷ Sign ∷ Size ∷ Steps ∷ Steps ∷ Full ∷ []) n Length
+case_of n = get_or (Length ∷ Length ∷ NotFinite ∷ Order ∷ Zero ∷ Series ∷ Start ∷ Climb ∷ Overflow ∷ Malformed ∷ NotPositive ∷ Sign ∷ Size ∷ Steps ∷ Steps ∷ Full ∷ []) n Length
 
 read_back : (r : Refusal) → case_of (number_of r) ≡ r
 unfolding case_of
@@ -22,6 +22,7 @@ read_back Order = refl
 read_back Zero = refl
 read_back Series = refl
 read_back Start = refl
+read_back Climb = refl
 read_back Overflow = refl
 read_back Malformed = refl
 read_back NotPositive = refl
@@ -41,6 +42,7 @@ in-a-byte Order = (lit< tt, lit< tt)
 in-a-byte Zero = (lit< tt, lit< tt)
 in-a-byte Series = (lit< tt, lit< tt)
 in-a-byte Start = (lit< tt, lit< tt)
+in-a-byte Climb = (lit< tt, lit< tt)
 in-a-byte Overflow = (lit< tt, lit< tt)
 in-a-byte Malformed = (lit< tt, lit< tt)
 in-a-byte NotPositive = (lit< tt, lit< tt)
@@ -64,6 +66,7 @@ listed Order = refl
 listed Zero = refl
 listed Series = refl
 listed Start = refl
+listed Climb = refl
 listed Overflow = refl
 listed Malformed = refl
 listed NotPositive = refl

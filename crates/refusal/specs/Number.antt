@@ -1,7 +1,7 @@
 -- The number of each refusal, as in docs/SCOPE.md's table. Definitions only.
-use Rattle.std.specs.Prelude.{Bool, not, ◌&&◌, ◌||◌, ℕ, ltb, leb, eqb}
+use Rattle.std.specs.Prelude.{Bool, ◌&&◌, ◌||◌, ℕ, ltb, leb, eqb}
 use Rattle.refusal.specs.declared.refusal.Refusal.{Refusal}
-use Rattle.refusal.specs.declared.refusal.Refusal.TheVariants.{Length, NotFinite, Order, Zero, Series, Start, Overflow, Malformed, NotPositive}
+use Rattle.refusal.specs.declared.refusal.Refusal.TheVariants.{Length, NotFinite, Order, Zero, Series, Start, Climb, Overflow, Malformed, NotPositive}
 use Rattle.refusal.specs.declared.refusal.Refusal.TheVariants.{Sign, Size, Steps, Full}
 
 abbrev pub number_of : Refusal → ℕ
@@ -11,6 +11,7 @@ number_of Order = 3
 number_of Zero = 4
 number_of Series = 5
 number_of Start = 6
+number_of Climb = 7
 number_of Overflow = 8
 number_of Malformed = 9
 number_of NotPositive = 10
@@ -19,7 +20,6 @@ number_of Size = 12
 number_of Steps = 13
 number_of Full = 15
 
--- the numbers that there are: each is some refusal's, and no refusal has another (proofs/Distinct.antt); 14 is no one's, and 7,
--- which was the climb's out of underflow, no one's any more
+-- the numbers that there are: each is some refusal's, and no refusal has another (proofs/Distinct.antt); 14 is no one's
 unfoldable pub is_listed : ℕ → Bool
-is_listed n = ((ltb 0 n && leb n 13) && not (eqb n 7)) || eqb n 15
+is_listed n = (ltb 0 n && leb n 13) || eqb n 15

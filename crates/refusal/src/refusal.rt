@@ -1,6 +1,5 @@
 // The refusals, in the order of their numbers. A call gives the first that applies in the order of its own checks; an answer has the number 0.
-// docs/SCOPE.md says exactly when each is given; 7 is retired and not used again. Promised: the numbers of specs/Number.antt, no two of which are
-// equal.
+// docs/SCOPE.md says exactly when each is given. Promised: the numbers of specs/Number.antt, no two of which are equal.
 ghost use Rattle.std.specs.Prelude.{◌≡◌};
 ghost use Rattle.refusal.specs.Number.{number_of, is_listed};
 
@@ -18,6 +17,8 @@ pub enum Refusal {
     Series,
     // K: the search for Miller's start found none
     Start,
+    // K: the climb out of underflow found no two values on scale
+    Climb,
     // a finished value is not finite
     Overflow,
     // a malformed line
@@ -45,6 +46,7 @@ impl Refusal {
             Refusal::Zero => 4,
             Refusal::Series => 5,
             Refusal::Start => 6,
+            Refusal::Climb => 7,
             Refusal::Overflow => 8,
             Refusal::Malformed => 9,
             Refusal::NotPositive => 10,
@@ -61,9 +63,6 @@ pub fn is_listed(number: u32) -> bool
     ensures { result ≡ is_listed number }
 {
     if number == 0 {
-        return false;
-    }
-    if number == 7 {
         return false;
     }
     if number <= 13 {

@@ -1,5 +1,6 @@
 -- What a K call answers: r + n - 2 rungs, at most 256 backward steps and 18 terms; and which refusals it can give. Assumes nothing.
 use mathlib.Core.Path.{◌≡◌, refl, sym, ap, ◌∙◌, subst}
+use mathlib.Core.Logic.{◌⊎◌, inl, inr}
 use mathlib.Core.Bool.{Bool, true, false, ◌&&◌, cond}
 use Prim.Native.Nat.{ℕ, ◌+◌, ◌-◌, ◌≤◌, ◌<◌}
 use native.Mathlib.Omega.{arith}
@@ -7,27 +8,29 @@ use lib.Dec.{eqb}
 use borrow.Author.Tests.{eqb-true, eqb-false}
 use lib.Ieee.{Float}
 use Rattle.complex.specs.declared.number.Complex.{Complex}
+use Rattle.refusal.specs.declared.refusal.Refusal.{Refusal}
 use Rattle.refusal.specs.declared.refusal.Refusal.TheVariants as refusals
+use Rattle.recurrence.specs.declared.state.Climb.{Climb}
 use Rattle.right_half_plane.specs.declared.ground.Ground.{Ground}
 use Rattle.right_half_plane.specs.declared.seeds.Seeds.{Seeds}
 use Rattle.right_half_plane.specs.declared.seeds.Seeds.TheVariants as seeds
 use Rattle.right_half_plane.specs.declared.seeds.Seeded.{Seeded}
 use Rattle.right_half_plane.specs.declared.reach.Reached.{Reached}
+use Rattle.right_half_plane.specs.declared.reach.Reached.TheVariants as reached
 use Rattle.right_half_plane.specs.declared.kernel.Ending.{Ending}
 use Rattle.right_half_plane.specs.declared.kernel.Ending.TheVariants.{Answered, Refused}
 use Rattle.right_half_plane.specs.Ground.{nearest_order, ground_of, is_alone}
 use Rattle.right_half_plane.specs.Seeds.{seed_of}
-use Rattle.right_half_plane.specs.Reach.{steps_of}
-use Rattle.right_half_plane.specs.Lead.{lead_of}
-use Rattle.right_half_plane.specs.Kernel.{lead_kernel, refused_kernel, pair_kernel, finished_kernel, seeds_kernel, kernel_of}
+use Rattle.right_half_plane.specs.Reach.{steps_of, reach_of}
+use Rattle.right_half_plane.specs.Kernel.{lead_kernel, refused_kernel, reached_kernel, pair_kernel, finished_kernel, seeds_kernel, kernel_of}
 use Rattle.right_half_plane.proofs.Counts.{Arrives, reach-arrives}
-use Rattle.right_half_plane.proofs.LeadFacts.{lead-rungs}
-use Rattle.right_half_plane.proofs.SeedFacts.{Kind, seeding, few-terms}
+use Rattle.right_half_plane.proofs.LeadFacts.{on-scale-rungs, first-rungs}
+use Rattle.right_half_plane.proofs.SeedFacts.{Kind, Seeding, seeding, few-terms}
 
--- r + n - 2 rungs, which is none for r = 0 and n = 1; refusal 6 alone
+-- r + n - 2 rungs, which is none for r = 0 and n = 1; refusals 6 and 7 alone
 abbrev pub Answers : ℕ → ℕ → Ending → Type 0
 Answers rungs terms (Answered counts) = (counts.rungs ≡ rungs) × (counts.backward ≤ 256) × (counts.longest_sum ≡ terms)
-Answers rungs terms (Refused refusal) = refusal ≡ refusals.Start
+Answers rungs terms (Refused refusal) = (refusal ≡ refusals.Start) ⊎ (refusal ≡ refusals.Climb)
 
 pub alone-is : (g : Ground) → is_alone g ≡ true → (g.nearest ≡ 0) × (g.count ≡ 1)
 unfolding is_alone
@@ -71,9 +74,11 @@ steps-and-fill g h = go (eqb g.count 1) refl
         more r n h e = omega arith
 
 module _ (g : Ground) (s : Seeded) (some : 0 < g.count) (backward : s.backward ≤ 256) where
-  lead-answers : (r : Reached) → Arrives g r → Answers (g.nearest + g.count - 2) s.terms (lead_kernel g s (lead_of g r)).ending
-  unfolding lead_kernel
-  lead-answers r e = (lead-rungs g r e ∙ steps-and-fill g some, backward, refl)
+  reached-answers : (r : Reached) → Arrives g r → Answers (g.nearest + g.count - 2) s.terms (reached_kernel g s r).ending
+  unfolding reached_kernel lead_kernel refused_kernel
+  reached-answers (reached.OnScale c) e = (on-scale-rungs g c ∙ ap (λ (k : ℕ). k + (g.count - 2)) e ∙ steps-and-fill g some, backward, refl)
+  reached-answers (reached.Marked c) e = (first-rungs g c ∙ ap (λ (k : ℕ). k + (g.count - 2)) e ∙ steps-and-fill g some, backward, refl)
+  reached-answers (reached.Refused refusal) e = inr e
 
   seeds-answers : (v : Seeds) → Kind g v → Answers (g.nearest + g.count - 2) s.terms (seeds_kernel g s v).ending
   unfolding seeds_kernel finished_kernel pair_kernel refused_kernel
@@ -81,8 +86,8 @@ module _ (g : Ground) (s : Seeded) (some : 0 < g.count) (backward : s.backward �
     where
       none : (r n : ℕ) → r ≡ 0 → n ≡ 1 → 0 ≡ r + n - 2
       none r n p q = omega arith
-  seeds-answers (seeds.Pair first second) e = lead-answers _ (reach-arrives g s.underflow (record { older = first; newer = second; state = s.state; rungs = 0 }) refl)
-  seeds-answers (seeds.Refused refusal) e = e
+  seeds-answers (seeds.Pair first second) e = reached-answers _ (reach-arrives g s.underflow (record { older = first; newer = second; state = s.state; rungs = 0 }) refl)
+  seeds-answers (seeds.Refused refusal) e = inl e
 
 pub kernel-answers : (scaled : Bool) (order : Float) (z : Complex) (modulus : Float) (n : ℕ) → 0 < n
     → Answers (nearest_order order + n - 2) (seed_of (ground_of order z modulus n) scaled).terms (kernel_of scaled order z modulus n).ending

@@ -1,9 +1,7 @@
--- The climb out of underflow resumes at the offset behind its rungs, or has climbed them all; to the first order wanted there are r rungs, or r - 1.
--- Assumes nothing.
-use mathlib.Core.Path.{◌≡◌, refl, sym, ◌∙◌, subst}
-use mathlib.Core.Logic.{◌⊎◌, inl, inr}
-use mathlib.Core.Bool.{Bool, true, false, true≢false, ◌&&◌, cond}
-use Prim.Native.Nat.{ℕ, ◌+◌, ◌-◌, ◌≤◌}
+-- The climb out of underflow resumes at the offset behind its rungs; to the first order wanted there are r rungs, or r - 1. Assumes nothing.
+use mathlib.Core.Path.{◌≡◌, refl, sym, ap, ◌∙◌, subst}
+use mathlib.Core.Bool.{Bool, true, false, ◌&&◌, ◌||◌, cond}
+use Prim.Native.Nat.{ℕ, ◌+◌, ◌-◌, ◌≤◌, ◌<◌}
 use native.Mathlib.Omega.{arith}
 use lib.Dec.{eqb, ltb}
 use borrow.Author.Tests.{eqb-true}
@@ -11,11 +9,14 @@ use lib.Ieee.{Float}
 use Rattle.laws.specs.Operators.{◌⊖◌}
 use Rattle.machine.specs.Small.{one}
 use Rattle.complex.specs.declared.number.Complex.{Complex}
+use Rattle.refusal.specs.declared.refusal.Refusal.{Refusal}
+use Rattle.refusal.specs.declared.refusal.Refusal.TheVariants as refusals
 use Rattle.recurrence.specs.Climb.{climb_from}
 use Rattle.recurrence.specs.Trial.{failed_trial}
 use Rattle.recurrence.specs.Search.{is_found, search_at, search_from}
 use Rattle.recurrence.specs.declared.search.Search.{Search}
 use Rattle.recurrence.specs.declared.search.Rule.TheVariants.{OutOfUnderflow}
+use Rattle.recurrence.specs.declared.state.OverflowState.TheVariants.{NearUnder}
 use Rattle.recurrence.specs.declared.state.Climb.{Climb}
 use Rattle.recurrence.proofs.ClimbFacts.{rungs-climbed}
 use Rattle.recurrence.proofs.SearchFacts.{search-ends}
@@ -25,11 +26,11 @@ use Rattle.right_half_plane.specs.declared.recover.Recovered.TheVariants as reco
 use Rattle.right_half_plane.specs.declared.reach.Reached.{Reached}
 use Rattle.right_half_plane.specs.declared.reach.Reached.TheVariants as reached
 use Rattle.right_half_plane.specs.Ground.{Sized}
-use Rattle.right_half_plane.specs.Recover.{neighbours_of, unmet_of, settled_of, climb_end, recover_of}
-use Rattle.right_half_plane.specs.Lead.{MarkedFew}
-use Rattle.right_half_plane.specs.Reach.{steps_of, wanted_of, marked_of, resting_of, climbed_of, resumed_of, begun_of, reach_of, Few}
+use Rattle.right_half_plane.specs.Recover.{is_zero_pair, neighbours_of, settled_of, recover_of}
+use Rattle.right_half_plane.specs.shapes.Led.{MarkedFew}
+use Rattle.right_half_plane.specs.Reach.{steps_of, wanted_of, resting_of, climbed_of, resumed_of, begun_of, reach_of, Few}
 
--- ---- the climb out of underflow: two neighbours and the offset behind the rungs climbed, or all its rungs
+-- ---- the climb out of underflow: two neighbours and the offset behind the rungs climbed, or refusal 7
 pub recovery-rungs : (fraction : Float) (two_over_z : Complex) (steps : ℕ) (s : Search) → s.rungs ≡ 0 → (search_from OutOfUnderflow fraction two_over_z steps s).rungs ≤ steps
 recovery-rungs fraction two_over_z steps s z = few _ s.rungs steps z (search-ends OutOfUnderflow fraction two_over_z steps s).few
   where
@@ -38,27 +39,20 @@ recovery-rungs fraction two_over_z steps s z = few _ s.rungs steps z (search-end
 
 abbrev pub Resumes : ℕ → Recovered → Type 0
 Resumes steps (recovered.Neighbours n) = (n.climb.rungs ≤ steps) × (n.next_offset ≡ n.climb.rungs + 2)
-Resumes steps (recovered.Unmet u) = u.climb.rungs ≡ steps
+Resumes steps (recovered.Refused refusal) = refusal ≡ refusals.Climb
 
-settled-resumes : (steps : ℕ) (s : Search) → s.rungs ≤ steps → (is_found s ≡ true) ⊎ (s.rungs ≡ steps) → Resumes steps (settled_of s)
-unfolding settled_of neighbours_of unmet_of
-settled-resumes steps s h e = go (is_found s) refl e
+settled-resumes : (steps : ℕ) (s : Search) → s.rungs ≤ steps → Resumes steps (settled_of s)
+unfolding settled_of neighbours_of
+settled-resumes steps s h = go (is_found s) (is_zero_pair s.before.value || is_zero_pair s.latest.value)
   where
-    go : (a : Bool) → is_found s ≡ a → (is_found s ≡ true) ⊎ (s.rungs ≡ steps) → Resumes steps (cond a (recovered.Neighbours (neighbours_of s)) (recovered.Unmet (unmet_of s)))
-    go true f w = (h, refl)
-    go false f (inl t) = absurd (true≢false (sym t ∙ f))
-    go false f (inr k) = k
+    go : (a b : Bool) → Resumes steps (cond a (cond b (recovered.Refused refusals.Climb) (recovered.Neighbours (record { climb = record { older = s.before.value; newer = s.latest.value; state = NearUnder; rungs = s.rungs }; next_offset = s.rungs + 2 }))) (recovered.Refused refusals.Climb))
+    go false b = refl
+    go true true = refl
+    go true false = (h, refl)
 
 pub recover-resumes : (fraction : Float) (two_over_z z : Complex) (steps : ℕ) (first second : Complex) → Resumes steps (recover_of fraction two_over_z z steps first second)
-unfolding recover_of climb_end
-recover-resumes fraction two_over_z z steps first second =
-    let s = search_at z first second failed_trial failed_trial in
-    let r = search_from OutOfUnderflow fraction two_over_z steps s in
-    settled-resumes steps r (recovery-rungs fraction two_over_z steps s refl) (from-none r.rungs (search-ends OutOfUnderflow fraction two_over_z steps s).ended)
-  where
-    from-none : {B : Type 0} (a : ℕ) → B ⊎ (a ≡ 0 + steps) → B ⊎ (a ≡ steps)
-    from-none a (inl b) = inl b
-    from-none a (inr e) = inr (omega arith)
+unfolding recover_of
+recover-resumes fraction two_over_z z steps first second = settled-resumes steps _ (recovery-rungs fraction two_over_z steps (search_at z first second failed_trial failed_trial) refl)
 
 -- ---- the rungs to the first order wanted
 pub steps-few : (g : Ground) → Sized g → steps_of g ≤ 1000
@@ -79,7 +73,8 @@ wanted-rungs g c = go (eqb g.count 1 && ltb 0 g.nearest)
 
 abbrev pub Arrives : Ground → Reached → Type 0
 Arrives g (reached.OnScale c) = c.rungs ≡ steps_of g
-Arrives g (reached.Marked u) = u.climb.rungs ≡ steps_of g
+Arrives g (reached.Marked c) = c.rungs ≡ steps_of g
+Arrives g (reached.Refused refusal) = refusal ≡ refusals.Climb
 
 climbed-arrives : (g : Ground) (from : ℕ) (c : Climb) → from ≡ c.rungs + 2 → c.rungs ≤ steps_of g → Arrives g (climbed_of g from c)
 unfolding climbed_of
@@ -92,9 +87,9 @@ climbed-arrives g from c e h =
     whole a n from e h = omega arith
 
 resumed-arrives : (g : Ground) (r : Recovered) → Resumes (steps_of g) r → Arrives g (resumed_of g r)
-unfolding resumed_of marked_of
+unfolding resumed_of
 resumed-arrives g (recovered.Neighbours n) w = climbed-arrives g n.next_offset n.climb w.1 w.0
-resumed-arrives g (recovered.Unmet u) w = wanted-rungs g u.climb ∙ w
+resumed-arrives g (recovered.Refused refusal) w = w
 
 -- where it begins: at the seeds, after no rung, or where the climb out of underflow leaves off
 begun-resumes : (g : Ground) (underflow : Bool) (c : Climb) → c.rungs ≡ 0 → Resumes (steps_of g) (begun_of g underflow c)
@@ -113,28 +108,31 @@ begun-few g underflow c s z = go (begun_of g underflow c) (begun-resumes g under
   where
     go : (r : Recovered) → Resumes (steps_of g) r → Few r
     go (recovered.Neighbours n) w = omega (arith, w.0, steps-few g s)
-    go (recovered.Unmet u) w = tt
+    go (recovered.Refused refusal) w = tt
 
 pub reach-arrives : (g : Ground) (underflow : Bool) (c : Climb) → c.rungs ≡ 0 → Arrives g (reach_of g underflow c)
-unfolding reach_of resting_of marked_of
+unfolding reach_of resting_of
 reach-arrives g underflow c z = go (eqb (steps_of g) 0) underflow refl
   where
     none : eqb (steps_of g) 0 ≡ true → (wanted_of g c).rungs ≡ steps_of g
     none e = let s : steps_of g ≡ 0 = eqb-true (steps_of g) 0 e in wanted-rungs g c ∙ z ∙ sym s
 
     go : (a b : Bool) → eqb (steps_of g) 0 ≡ a
-        → Arrives g (cond a (cond b (marked_of g g.z c) (reached.OnScale (wanted_of g c))) (resumed_of g (begun_of g underflow c)))
+        → Arrives g (cond a (cond b (reached.Marked (wanted_of g c)) (reached.OnScale (wanted_of g c))) (resumed_of g (begun_of g underflow c)))
     go true true e = none e
     go true false e = none e
     go false b e = resumed-arrives g _ (begun-resumes g underflow c z)
 
-pub arrived-few : (g : Ground) (c : Climb) → Sized g → c.rungs ≡ steps_of g → c.rungs ≤ 1000
+arrived-few : (g : Ground) (c : Climb) → Sized g → c.rungs ≡ steps_of g → c.rungs ≤ 1000
 arrived-few g c s e = subst (λ (n : ℕ). n ≤ 1000) (sym e) (steps-few g s)
 
--- what is said of where the climb stands, of the lead that comes of it
+pub on-scale-few : (g : Ground) (underflow : Bool) (c d : Climb) (r : Reached) → r ≡ reach_of g underflow c → r ≡ reached.OnScale d → Sized g → c.rungs ≡ 0 → d.rungs ≤ 1000
+on-scale-few g underflow c d r e o s z = arrived-few g d s (subst (Arrives g) (sym e ∙ o) (reach-arrives g underflow c z))
+
+pub marked-few : (g : Ground) (underflow : Bool) (c d : Climb) (r : Reached) → r ≡ reach_of g underflow c → r ≡ reached.Marked d → Sized g → c.rungs ≡ 0 → d.rungs ≤ 1000
+marked-few g underflow c d r e o s z = arrived-few g d s (subst (Arrives g) (sym e ∙ o) (reach-arrives g underflow c z))
+
 pub reached-few : (g : Ground) (underflow : Bool) (c : Climb) (r : Reached) → r ≡ reach_of g underflow c → Sized g → c.rungs ≡ 0 → MarkedFew r
-reached-few g underflow c r e s z = go r (subst (Arrives g) (sym e) (reach-arrives g underflow c z))
-  where
-    go : (r : Reached) → Arrives g r → MarkedFew r
-    go (reached.OnScale d) a = tt
-    go (reached.Marked u) a = arrived-few g u.climb s a
+reached-few g underflow c (reached.OnScale d) e s z = tt
+reached-few g underflow c (reached.Marked d) e s z = marked-few g underflow c d (reached.Marked d) e refl s z
+reached-few g underflow c (reached.Refused refusal) e s z = tt

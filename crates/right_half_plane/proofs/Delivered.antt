@@ -1,8 +1,9 @@
--- An answer of n orders has no more zeros than orders, a pair of cells for each order, and +0 in the cells of the entries before the count; a refusal is 6.
+-- An answer of n orders has no more zeros than orders, a pair of cells for each order, and +0 in the cells of the entries before the count; a refusal is 6 or 7.
 -- Assumes nothing.
 use mathlib.Core.Path.{◌≡◌, refl, sym, ap, ◌∙◌}
 use mathlib.Core.Bool.{Bool}
-use mathlib.Core.List.{List, ◌++◌}
+use mathlib.Core.List.{List, [], ◌∷◌, ◌++◌}
+use mathlib.Core.Logic.{◌⊎◌, inl, inr}
 use Prim.Native.Nat.{ℕ, zero, suc, ◌+◌, ◌-◌, ◌*◌, ◌≤◌}
 use native.Mathlib.Omega.{arith}
 use lib.ListN.{length, take, replicate, length-append, length-replicate}
@@ -12,25 +13,29 @@ use Rattle.laws.specs.Operators.{◌⊖◌}
 use Rattle.machine.specs.Small.{one}
 use Rattle.complex.specs.declared.number.Complex.{Complex}
 use Rattle.refusal.specs.declared.refusal.Refusal.TheVariants as refusals
+use Rattle.recurrence.specs.declared.state.Climb.{Climb}
 use Rattle.recurrence.proofs.FillFacts.{fill-length}
 use Rattle.right_half_plane.specs.declared.ground.Ground.{Ground}
 use Rattle.right_half_plane.specs.declared.seeds.Seeds.{Seeds}
 use Rattle.right_half_plane.specs.declared.seeds.Seeds.TheVariants as seeds
 use Rattle.right_half_plane.specs.declared.seeds.Seeded.{Seeded}
+use Rattle.right_half_plane.specs.declared.reach.Reached.{Reached}
+use Rattle.right_half_plane.specs.declared.reach.Reached.TheVariants as reached
 use Rattle.right_half_plane.specs.declared.lead.Lead.{Lead}
 use Rattle.right_half_plane.specs.declared.kernel.Ending.{Ending}
 use Rattle.right_half_plane.specs.declared.kernel.Ending.TheVariants.{Answered, Refused}
 use Rattle.right_half_plane.specs.Ground.{ground_of}
 use Rattle.right_half_plane.specs.Seeds.{seed_of}
-use Rattle.right_half_plane.specs.Reach.{reach_of}
-use Rattle.right_half_plane.specs.Kernel.{rest_of, lead_cells, lead_kernel, refused_kernel, pair_kernel, finished_kernel, seeds_kernel, kernel_of}
+use Rattle.right_half_plane.specs.Lead.{on_scale_lead}
+use Rattle.right_half_plane.specs.Kernel.{Kernel, rest_of, lead_cells, lead_kernel, refused_kernel, reached_kernel, pair_kernel, finished_kernel, seeds_kernel, kernel_of}
+use Rattle.right_half_plane.proofs.Counts.{Arrives, reach-arrives}
 use Rattle.right_half_plane.proofs.LeadFacts.{lead-zeros}
 use Rattle.right_half_plane.proofs.SeedFacts.{Kind, seeding}
 use Rattle.right_half_plane.proofs.Answers.{alone-is}
 
 abbrev pub Delivers : ℕ → Ending → List Float → Type 0
 Delivers n (Answered counts) cells = (counts.zeros ≤ n) × (length cells ≡ n * 2) × (take (counts.zeros * 2) cells ≡ replicate (counts.zeros * 2) (of_bits binary64 0))
-Delivers n (Refused refusal) cells = refusal ≡ refusals.Start
+Delivers n (Refused refusal) cells = (refusal ≡ refusals.Start) ⊎ (refusal ≡ refusals.Climb)
 
 rest-length : (g : Ground) (lead : Lead) (k : ℕ) → length (rest_of g lead k).cells ≡ k * 2
 unfolding rest_of
@@ -59,6 +64,16 @@ module _ (g : Ground) (s : Seeded) where
   unfolding lead_kernel
   lead-delivers lead h = (h, cells-length g lead h, cells-front g lead)
 
+  none : (c : Climb) → (on_scale_lead c).zeros ≤ g.count
+  unfolding on_scale_lead
+  none c = omega arith
+
+  reached-delivers : (r : Reached) → Arrives g r → Delivers g.count (reached_kernel g s r).ending (reached_kernel g s r).cells
+  unfolding reached_kernel refused_kernel
+  reached-delivers (reached.OnScale c) e = lead-delivers _ (none c)
+  reached-delivers (reached.Marked c) e = lead-delivers _ (lead-zeros g c)
+  reached-delivers (reached.Refused refusal) e = inr e
+
   seeds-delivers : (v : Seeds) → Kind g v → Delivers g.count (seeds_kernel g s v).ending (seeds_kernel g s v).cells
   unfolding seeds_kernel finished_kernel pair_kernel refused_kernel
   seeds-delivers (seeds.Finished value) e = (few g.count, pair g.count (alone-is g e).1, refl)
@@ -68,8 +83,8 @@ module _ (g : Ground) (s : Seeded) where
 
       pair : (n : ℕ) → n ≡ 1 → 2 ≡ n * 2
       pair n e = omega arith
-  seeds-delivers (seeds.Pair first second) e = lead-delivers _ (lead-zeros g (reach_of g s.underflow (record { older = first; newer = second; state = s.state; rungs = 0 })))
-  seeds-delivers (seeds.Refused refusal) e = e
+  seeds-delivers (seeds.Pair first second) e = reached-delivers _ (reach-arrives g s.underflow (record { older = first; newer = second; state = s.state; rungs = 0 }) refl)
+  seeds-delivers (seeds.Refused refusal) e = inl e
 
 pub kernel-delivers : (scaled : Bool) (order : Float) (z : Complex) (modulus : Float) (n : ℕ) → let k = kernel_of scaled order z modulus n in Delivers n k.ending k.cells
 unfolding kernel_of ground_of

@@ -1,7 +1,7 @@
 -- The zeros before the first entries, and the rungs climbed until then: what first orders on scale adds. Assumes nothing.
-use mathlib.Core.Path.{◌≡◌, ap, ◌∙◌}
+use mathlib.Core.Path.{◌≡◌, refl, ap, ◌∙◌}
 use mathlib.Core.Logic.{inl, inr}
-use Prim.Native.Nat.{ℕ, zero, suc, ◌+◌, ◌-◌, ◌≤◌}
+use Prim.Native.Nat.{ℕ, zero, suc, ◌+◌, ◌-◌, ◌≤◌, ◌<◌}
 use native.Mathlib.Omega.{arith}
 use lib.Ieee.{Float}
 use Rattle.complex.specs.declared.number.Complex.{Complex}
@@ -14,15 +14,10 @@ use Rattle.recurrence.proofs.ClimbFacts.{rungs-climbed}
 use Rattle.recurrence.proofs.FillFacts.{fill-climb}
 use Rattle.recurrence.proofs.FirstFacts as first
 use Rattle.right_half_plane.specs.declared.ground.Ground.{Ground}
-use Rattle.right_half_plane.specs.declared.recover.Shifted.{Shifted}
-use Rattle.right_half_plane.specs.declared.reach.Reached.{Reached}
-use Rattle.right_half_plane.specs.declared.reach.Reached.TheVariants.{OnScale, Marked}
 use Rattle.right_half_plane.specs.declared.lead.Lead.{Lead}
 use Rattle.right_half_plane.specs.Ground.{Sized}
-use Rattle.right_half_plane.specs.Lead.{on_scale_lead, first_lead, lead_of}
-use Rattle.right_half_plane.specs.Reach.{steps_of}
+use Rattle.right_half_plane.specs.Lead.{on_scale_lead, first_lead}
 use Rattle.right_half_plane.specs.Kernel.{LeadFits, rest_of}
-use Rattle.right_half_plane.proofs.Counts.{Arrives, arrived-few}
 
 few-rungs : (n : ℕ) (r : FirstOrders) → first.Counted n r → n ≤ 512 → r.rungs ≤ 512
 few-rungs n r (inl w) h = omega (arith, w.0, w.1)
@@ -35,37 +30,24 @@ few-zeros n r (inr w) = omega (arith, w.0, w.1, w.2)
 pub first-few : (z : Complex) (order : Float) (n : ℕ) (a b two_over_z : Complex) → n ≤ 512 → (first_orders z order n a b two_over_z).rungs ≤ 512
 first-few z order n a b two_over_z h = few-rungs n (first_orders z order n a b two_over_z) (first.first_counted z order n a b two_over_z) h
 
-first-zeros : (g : Ground) (u : Shifted) → (first_lead g u).zeros ≤ g.count
+pub lead-zeros : (g : Ground) (c : Climb) → (first_lead g c).zeros ≤ g.count
 unfolding first_lead
-first-zeros g u =
-    few-zeros g.count (first_orders u.argument g.order g.count u.climb.older u.climb.newer g.two_over_z)
-    (first.first_counted u.argument g.order g.count u.climb.older u.climb.newer g.two_over_z)
+lead-zeros g c = few-zeros g.count (first_orders g.z g.order g.count c.older c.newer g.two_over_z) (first.first_counted g.z g.order g.count c.older c.newer g.two_over_z)
 
--- no more zeros than orders
-pub lead-zeros : (g : Ground) (r : Reached) → (lead_of g r).zeros ≤ g.count
-unfolding lead_of on_scale_lead
-lead-zeros g (OnScale c) = omega arith
-lead-zeros g (Marked u) = first-zeros g u
-
-on-scale-fits : (g : Ground) (c : Climb) → Sized g → c.rungs ≤ 1000 → LeadFits g (on_scale_lead c)
+pub on-scale-fits : (g : Ground) (c : Climb) → Sized g → c.rungs ≤ 1000 → LeadFits g (on_scale_lead c)
 unfolding on_scale_lead
 on-scale-fits g c s h = record { zeros = omega arith; few = s.few; rungs = omega arith }
 
-first_fits : (g : Ground) (u : Shifted) → Sized g → u.climb.rungs ≤ 1000 → LeadFits g (first_lead g u)
+pub first_fits : (g : Ground) (c : Climb) → Sized g → c.rungs ≤ 1000 → LeadFits g (first_lead g c)
 unfolding first_lead
-first_fits g u s h =
-    let r = first_orders u.argument g.order g.count u.climb.older u.climb.newer g.two_over_z in
-    let k : r.rungs ≤ 512 = first-few u.argument g.order g.count u.climb.older u.climb.newer g.two_over_z s.few in
+first_fits g c s h =
+    let r = first_orders g.z g.order g.count c.older c.newer g.two_over_z in
+    let k : r.rungs ≤ 512 = first-few g.z g.order g.count c.older c.newer g.two_over_z s.few in
     record {
-      zeros = first-zeros g u;
+      zeros = lead-zeros g c;
       few = s.few;
       rungs = omega arith;
     }
-
-pub lead-fits : (g : Ground) (r : Reached) → Sized g → Arrives g r → LeadFits g (lead_of g r)
-unfolding lead_of
-lead-fits g (OnScale c) s a = on-scale-fits g c s (arrived-few g c s a)
-lead-fits g (Marked u) s a = first_fits g u s (arrived-few g u.climb s a)
 
 -- ---- with the fill behind them
 rest-rungs : (g : Ground) (lead : Lead) (k : ℕ) → (rest_of g lead k).rungs ≡ lead.climb.rungs + (k - 2)
@@ -86,26 +68,19 @@ rest-rungs g lead (suc (suc k)) =
     less : (k : ℕ) → k ≡ suc (suc k) - 2
     less k = omega arith
 
-on-scale-rungs : (g : Ground) (c : Climb) → (rest_of g (on_scale_lead c) (g.count - (on_scale_lead c).zeros)).rungs ≡ c.rungs + (g.count - 2)
+pub on-scale-rungs : (g : Ground) (c : Climb) → (rest_of g (on_scale_lead c) (g.count - (on_scale_lead c).zeros)).rungs ≡ c.rungs + (g.count - 2)
 unfolding on_scale_lead
 on-scale-rungs g c = rest-rungs g (on_scale_lead c) (g.count - (on_scale_lead c).zeros) ∙ ap (λ (k : ℕ). c.rungs + k) (all g.count)
   where
     all : (n : ℕ) → n - 0 - 2 ≡ n - 2
     all n = omega arith
 
--- the rungs of the search count once, wherever the climb handed over
-first-rungs : (g : Ground) (u : Shifted) → (rest_of g (first_lead g u) (g.count - (first_lead g u).zeros)).rungs ≡ u.climb.rungs + (g.count - 2)
+pub first-rungs : (g : Ground) (c : Climb) → (rest_of g (first_lead g c) (g.count - (first_lead g c).zeros)).rungs ≡ c.rungs + (g.count - 2)
 unfolding first_lead
-first-rungs g u =
-    let r = first_orders u.argument g.order g.count u.climb.older u.climb.newer g.two_over_z in
-    rest-rungs g (first_lead g u) (g.count - r.zeros)
-    ∙ join u.climb.rungs r.rungs g.count r.zeros
-    (first.first-and-fill g.count r (first.first_counted u.argument g.order g.count u.climb.older u.climb.newer g.two_over_z))
+first-rungs g c =
+    let r = first_orders g.z g.order g.count c.older c.newer g.two_over_z in
+    rest-rungs g (first_lead g c) (g.count - r.zeros)
+    ∙ join c.rungs r.rungs g.count r.zeros (first.first-and-fill g.count r (first.first_counted g.z g.order g.count c.older c.newer g.two_over_z))
   where
     join : (a b n z : ℕ) → b + (n - (z + 2)) ≡ n - 2 → a + b + (n - z - 2) ≡ a + (n - 2)
     join a b n z e = omega arith
-
-pub lead-rungs : (g : Ground) (r : Reached) → Arrives g r → (rest_of g (lead_of g r) (g.count - (lead_of g r).zeros)).rungs ≡ steps_of g + (g.count - 2)
-unfolding lead_of
-lead-rungs g (OnScale c) e = on-scale-rungs g c ∙ ap (λ (k : ℕ). k + (g.count - 2)) e
-lead-rungs g (Marked u) e = first-rungs g u ∙ ap (λ (k : ℕ). k + (g.count - 2)) e

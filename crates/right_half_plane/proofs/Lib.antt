@@ -2,7 +2,6 @@
 pub mod Answers
 pub mod CellFacts
 pub mod Counts
-pub mod Handed
 pub mod LeadFacts
 pub mod LeadingDigits
 pub mod ModulusBound

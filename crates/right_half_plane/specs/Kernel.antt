@@ -6,17 +6,20 @@ use Rattle.machine.specs.Small.{nothing, one}
 use Rattle.complex.specs.declared.number.Complex.{Complex}
 use Rattle.refusal.specs.declared.refusal.Refusal.{Refusal}
 use Rattle.recurrence.specs.Fill.{fill_from}
+use Rattle.recurrence.specs.declared.state.Climb.{Climb}
 use Rattle.right_half_plane.specs.declared.ground.Ground.{Ground}
 use Rattle.right_half_plane.specs.declared.seeds.Seeds.{Seeds}
 use Rattle.right_half_plane.specs.declared.seeds.Seeds.TheVariants as seeds
 use Rattle.right_half_plane.specs.declared.seeds.Seeded.{Seeded}
+use Rattle.right_half_plane.specs.declared.reach.Reached.{Reached}
+use Rattle.right_half_plane.specs.declared.reach.Reached.TheVariants as reached
 use Rattle.right_half_plane.specs.declared.lead.Lead.{Lead}
 use Rattle.right_half_plane.specs.declared.kernel.Ending.{Ending}
 use Rattle.right_half_plane.specs.declared.kernel.Ending.TheVariants.{Answered, Refused}
 use Rattle.right_half_plane.specs.Ground.{ground_of}
 use Rattle.right_half_plane.specs.Seeds.{seed_of}
 use Rattle.right_half_plane.specs.Reach.{reach_of}
-use Rattle.right_half_plane.specs.Lead.{lead_of}
+use Rattle.right_half_plane.specs.Lead.{on_scale_lead, first_lead}
 
 -- the zeros fit the orders, and the rungs so far are few
 pub record LeadFits (g : Ground) (lead : Lead) : Type 0 where
@@ -62,9 +65,14 @@ lead_kernel g s lead = record {
 unfoldable pub refused_kernel : Refusal → Kernel
 refused_kernel refusal = record { ending = Refused refusal; cells = [] }
 
+unfoldable pub reached_kernel : Ground → Seeded → Reached → Kernel
+reached_kernel g s (reached.OnScale c) = lead_kernel g s (on_scale_lead c)
+reached_kernel g s (reached.Marked c) = lead_kernel g s (first_lead g c)
+reached_kernel g s (reached.Refused refusal) = refused_kernel refusal
+
 unfoldable pub pair_kernel : Ground → Seeded → Complex → Complex → Kernel
 pair_kernel g s first second =
-    lead_kernel g s (lead_of g (reach_of g s.underflow (record { older = first; newer = second; state = s.state; rungs = 0 })))
+    reached_kernel g s (reach_of g s.underflow (record { older = first; newer = second; state = s.state; rungs = 0 }))
 
 unfoldable pub finished_kernel : Seeded → Complex → Kernel
 finished_kernel s value = record {

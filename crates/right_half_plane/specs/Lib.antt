@@ -8,3 +8,4 @@ pub mod Reach
 pub mod Recover
 pub mod Refusals
 pub mod Seeds
+pub mod shapes

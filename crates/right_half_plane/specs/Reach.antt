@@ -1,16 +1,15 @@
--- The climb from the seeds to the first order wanted: ZBKNU from label 210 to labels 240 and 270 (zbknu.f), with the climb out of underflow where
--- it is marked; `k_right_half_plane` of src/amos/right_half_plane.rs. Definitions only.
-use Rattle.std.specs.Prelude.{ℕ, ◌+◌, ◌-◌, ◌≤◌, Bool, ◌&&◌, cond, eqb, ltb}
+-- The climb from the seeds to the first order wanted: ZBKNU from label 210 to label 240 (zbknu.f), with the climb out of underflow where it is marked;
+-- `k_right_half_plane` of src/amos/right_half_plane.rs. Definitions only.
+use Rattle.std.specs.Prelude.{ℕ, ◌+◌, ◌-◌, ◌≤◌, Bool, ◌&&◌, cond, eqb, ltb, Float}
 use Rattle.laws.specs.Operators.{◌⊖◌}
 use Rattle.machine.specs.Small.{one}
-use Rattle.complex.specs.declared.number.Complex.{Complex}
 use Rattle.recurrence.specs.Climb.{climb_from}
 use Rattle.recurrence.specs.declared.state.Climb.{Climb}
 use Rattle.right_half_plane.specs.declared.ground.Ground.{Ground}
 use Rattle.right_half_plane.specs.declared.recover.Recovered.{Recovered}
 use Rattle.right_half_plane.specs.declared.recover.Recovered.TheVariants as recovered
 use Rattle.right_half_plane.specs.declared.reach.Reached.{Reached}
-use Rattle.right_half_plane.specs.declared.reach.Reached.TheVariants.{OnScale, Marked}
+use Rattle.right_half_plane.specs.declared.reach.Reached.TheVariants.{OnScale, Marked, Refused}
 use Rattle.right_half_plane.specs.Recover.{recover_of}
 
 -- r rungs, and r - 1 where one value alone is asked for, but none where r = 0
@@ -22,23 +21,19 @@ unfoldable pub wanted_of : Ground → Climb → Climb
 wanted_of g c =
     cond (eqb g.count 1 && ltb 0 g.nearest) (record { older = c.newer; newer = c.newer; state = c.state; rungs = c.rungs }) c
 
--- underflow stays marked, and the values without e to minus this argument (labels 215 and 270)
-unfoldable pub marked_of : Ground → Complex → Climb → Reached
-marked_of g argument c = Marked (record { argument = argument; climb = wanted_of g c })
-
--- with no rung to climb: the argument is z
+-- with no rung to climb, underflow stays marked
 unfoldable pub resting_of : Ground → Bool → Climb → Reached
-resting_of g underflow c = cond underflow (marked_of g g.z c) (OnScale (wanted_of g c))
+resting_of g underflow c = cond underflow (Marked (wanted_of g c)) (OnScale (wanted_of g c))
 
 -- the plain climb (DO 230), over the offsets from `from` to the steps and one more; the order at an offset is that of the fraction, less 1, plus
 -- the offset
 unfoldable pub climbed_of : Ground → ℕ → Climb → Reached
 climbed_of g from c = OnScale (wanted_of g (climb_from g.two_over_z (g.fraction ⊖ one) from (steps_of g + 2 - from) c))
 
--- it resumes where the climb out of underflow left off; without two neighbours underflow stays marked, at the argument as it was shifted
+-- it resumes where the climb out of underflow left off
 unfoldable pub resumed_of : Ground → Recovered → Reached
 resumed_of g (recovered.Neighbours n) = climbed_of g n.next_offset n.climb
-resumed_of g (recovered.Unmet u) = marked_of g u.argument u.climb
+resumed_of g (recovered.Refused refusal) = Refused refusal
 
 -- out of underflow first, where it is marked
 unfoldable pub begun_of : Ground → Bool → Climb → Recovered
@@ -53,4 +48,4 @@ reach_of g underflow c = cond (eqb (steps_of g) 0) (resting_of g underflow c) (r
 -- a climb out of underflow was short
 abbrev pub Few : Recovered → Type 0
 Few (recovered.Neighbours n) = n.climb.rungs ≤ 1000
-Few (recovered.Unmet u) = Unit
+Few (recovered.Refused refusal) = Unit

@@ -7,11 +7,12 @@ ghost use Rattle.laws.proofs.Relative.{nonnegative};
 ghost use Rattle.complex.specs.Functions.{modulus_of};
 ghost use Rattle.call.specs.Limits.{largest_order};
 ghost use Rattle.right_half_plane.specs.Ground.{Sized};
+ghost use Rattle.right_half_plane.specs.shapes.Led.{MarkedFew, led_of};
 ghost use Rattle.right_half_plane.specs.Kernel.{LeadFits, rest_of, lead_cells, lead_kernel, pair_kernel, finished_kernel, kernel_of, afterwards};
 
 use crate::ground::{Ground, prepare};
-use crate::lead::{Lead, led};
-use crate::reach::reach;
+use crate::lead::{Lead, first_lead, on_scale_lead};
+use crate::reach::{Reached, reach};
 use crate::seeds::{Seeded, Seeds, seed};
 use cells::fill;
 use complex::number::Complex;
@@ -80,9 +81,23 @@ fn answered(g: Ground, s: Seeded, lead: Lead, out: &mut [f64]) -> Ending
     })
 }
 
+// The lead of where the climb stands. It is one record for all ways, so that the compiler keeps it in registers: a refused climb has none, and that of
+// its start stands for it, unread.
+fn led(g: Ground, start: Climb, reached: Reached) -> Lead
+    requires { Sized g × MarkedFew reached }
+    ensures { result ≡ led_of g start reached }
+{
+    match reached {
+        Reached::OnScale(c) => on_scale_lead(c),
+        Reached::Marked(c) => first_lead(g, c),
+        Reached::Refused(_) => on_scale_lead(start),
+    }
+}
+
 fn from_pair(g: Ground, s: Seeded, first: Complex, second: Complex, out: &mut [f64]) -> Ending
     requires { Sized g × (length out.old ≡ g.count * 2) }
-    ensures { (result ≡ (pair_kernel g s first second).ending) × (out.new ≡ (pair_kernel g s first second).cells) }
+    ensures { (result ≡ (pair_kernel g s first second).ending)
+        × (out.new ≡ afterwards (pair_kernel g s first second) out.old) }
 {
     let state = s.state;
     let start = Climb {
@@ -91,7 +106,13 @@ fn from_pair(g: Ground, s: Seeded, first: Complex, second: Complex, out: &mut [f
         state,
         rungs: 0,
     };
-    answered(g, s, led(g, reach(g, s.underflow, start)), out)
+    let reached = reach(g, s.underflow, start);
+    let lead = led(g, start, reached);
+    match reached {
+        Reached::OnScale(_) => answered(g, s, lead, out),
+        Reached::Marked(_) => answered(g, s, lead, out),
+        Reached::Refused(refusal) => Ending::Refused(refusal),
+    }
 }
 
 fn finished(s: Seeded, value: Complex, out: &mut [f64]) -> Ending

@@ -1,12 +1,10 @@
 // The zeros before the first order on scale, the first two entries after them, and the climb that goes on from there.
-// From src/amos/right_half_plane.rs, k_right_half_plane (ZBKNU). Promised: lead_of of specs/Lead.antt.
+// From src/amos/right_half_plane.rs, k_right_half_plane (ZBKNU). Promised: on_scale_lead and first_lead of specs/Lead.antt.
 ghost use Rattle.std.specs.Prelude.{◌≡◌, ◌≤◌};
 ghost use Rattle.right_half_plane.specs.Ground.{Sized};
-ghost use Rattle.right_half_plane.specs.Lead.{MarkedFew, on_scale_lead, first_lead, lead_of};
+ghost use Rattle.right_half_plane.specs.Lead.{on_scale_lead, first_lead};
 
 use crate::ground::Ground;
-use crate::reach::Reached;
-use crate::recover::Shifted;
 use complex::number::Complex;
 use machine::constants::Machine;
 use recurrence::first::first_orders;
@@ -21,7 +19,7 @@ pub struct Lead {
 }
 
 // on scale: no zeros, and the two values off the scale
-fn on_scale_lead(c: Climb) -> Lead
+pub fn on_scale_lead(c: Climb) -> Lead
     ensures { result ≡ on_scale_lead c }
 {
     let older = c.older;
@@ -37,14 +35,13 @@ fn on_scale_lead(c: Climb) -> Lead
 }
 
 // underflow still marked: first orders on scale
-fn first_lead(g: Ground, u: Shifted) -> Lead
-    requires { Sized g × (u.climb.rungs ≤ 1000) }
-    ensures { result ≡ first_lead g u }
+pub fn first_lead(g: Ground, c: Climb) -> Lead
+    requires { Sized g × (c.rungs ≤ 1000) }
+    ensures { result ≡ first_lead g c }
 {
-    let argument = u.argument;
-    let c = u.climb;
+    let z = g.z;
     let two_over_z = g.two_over_z;
-    let s = first_orders(argument, g.order, g.count, c.older, c.newer, two_over_z);
+    let s = first_orders(z, g.order, g.count, c.older, c.newer, two_over_z);
     let older = s.first;
     let newer = s.second;
     Lead {
@@ -57,16 +54,5 @@ fn first_lead(g: Ground, u: Shifted) -> Lead
             state: OverflowState::NearUnder,
             rungs: c.rungs + s.rungs,
         },
-    }
-}
-
-// One record for both ways, so that the compiler keeps it in registers.
-pub fn led(g: Ground, reached: Reached) -> Lead
-    requires { Sized g × MarkedFew reached }
-    ensures { result ≡ lead_of g reached }
-{
-    match reached {
-        Reached::OnScale(c) => on_scale_lead(c),
-        Reached::Marked(u) => first_lead(g, u),
     }
 }

@@ -2,19 +2,21 @@
 // Promised: reach_of of specs/Reach.antt. Each rung raises the call's own number.
 ghost use Rattle.std.specs.Prelude.{◌≡◌, ◌≤◌};
 ghost use Rattle.right_half_plane.specs.Ground.{Sized};
-ghost use Rattle.right_half_plane.specs.Reach.{Few, steps_of, wanted_of, marked_of, resting_of, climbed_of, resumed_of, begun_of, reach_of};
+ghost use Rattle.right_half_plane.specs.Reach.{Few, steps_of, wanted_of, resting_of, climbed_of, resumed_of, begun_of, reach_of};
 
 use crate::ground::Ground;
-use crate::recover::{Recovered, Resumed, Shifted, recover};
+use crate::recover::{Recovered, Resumed, recover};
 use complex::number::Complex;
 use recurrence::climb::climb;
 use recurrence::state::Climb;
+use refusal::refusal::Refusal;
 
-// Where the climb stands at the first order wanted: on the scale of its state, or without e to minus the argument and still to be tried.
+// Where the climb stands at the first order wanted: on the scale of its state, or without e^-z and still to be tried.
 #[derive(Drop)]
 pub enum Reached {
     OnScale(Climb),
-    Marked(Shifted),
+    Marked(Climb),
+    Refused(Refusal),
 }
 
 // how many rungs lie between the seeds and the orders wanted
@@ -49,21 +51,11 @@ fn wanted(g: Ground, c: Climb) -> Climb
     c
 }
 
-fn marked(g: Ground, argument: Complex, c: Climb) -> Reached
-    ensures { result ≡ marked_of g argument c }
-{
-    Reached::Marked(Shifted {
-        argument,
-        climb: wanted(g, c),
-    })
-}
-
 fn resting(g: Ground, underflow: bool, c: Climb) -> Reached
     ensures { result ≡ resting_of g underflow c }
 {
-    let z = g.z;
     if underflow {
-        return marked(g, z, c);
+        return Reached::Marked(wanted(g, c));
     }
     Reached::OnScale(wanted(g, c))
 }
@@ -83,7 +75,7 @@ fn resumed(g: Ground, found: Recovered) -> Reached
 {
     match found {
         Recovered::Neighbours(n) => climbed(g, n.next_offset, n.climb),
-        Recovered::Unmet(u) => marked(g, u.argument, u.climb),
+        Recovered::Refused(refusal) => Reached::Refused(refusal),
     }
 }
 

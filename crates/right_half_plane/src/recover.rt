@@ -1,13 +1,15 @@
 // The climb out of underflow: rung after rung from seeds that stand without e^-z, each value tried, until two neighbours are on scale.
-// From src/amos/right_half_plane.rs, k_right_half_plane (ZBKNU, DO 262), as docs/DIFFERENCES.md corrects it; the search is crate recurrence's.
-// Promised: recover_of of specs/Recover.antt: two neighbours, or the last two values with the argument as it was shifted.
+// From src/amos/right_half_plane.rs, k_right_half_plane (ZBKNU, DO 262); the search is crate recurrence's. Promised: recover_of of
+// specs/Recover.antt; refusal 7 where the offsets run out first, or where one of the two is zero in both parts: there the Rust hands on values
+// that it never found.
 ghost use Rattle.std.specs.Prelude.{◌≡◌, ◌≤◌};
-ghost use Rattle.right_half_plane.specs.Recover.{neighbours_of, unmet_of, settled_of, recover_of};
+ghost use Rattle.right_half_plane.specs.Recover.{is_zero_pair, neighbours_of, settled_of, recover_of};
 
 use complex::number::Complex;
 use recurrence::search::{Rule, Search, is_found, search_at, search_from};
 use recurrence::state::{Climb, OverflowState};
 use recurrence::trial::failed;
+use refusal::refusal::Refusal;
 
 // Two neighbours on the scale of NearUnder, and the offset at which the plain climb resumes.
 #[derive(Drop)]
@@ -16,20 +18,23 @@ pub struct Resumed {
     pub next_offset: u32,
 }
 
-// Two values that stand without e to minus the argument: z, or what a search has lowered it to.
-#[derive(Drop)]
-pub struct Shifted {
-    pub argument: Complex,
-    pub climb: Climb,
-}
-
 #[derive(Drop)]
 pub enum Recovered {
     Neighbours(Resumed),
-    Unmet(Shifted),
+    Refused(Refusal),
 }
 
-fn neighbours(s: Search) -> Resumed
+fn is_zero(w: Complex) -> bool
+    ensures { result ≡ is_zero_pair w }
+{
+    if w.re == 0.0 {
+        return w.im == 0.0;
+    }
+    false
+}
+
+// What was found is the pair, unless a zero is among it.
+fn neighbours(s: Search) -> Recovered
     requires { s.rungs ≤ 1000 }
     ensures { result ≡ neighbours_of s }
 {
@@ -37,7 +42,13 @@ fn neighbours(s: Search) -> Resumed
     let latest = s.latest;
     let older = before.value;
     let newer = latest.value;
-    Resumed {
+    if is_zero(older) {
+        return Recovered::Refused(Refusal::Climb);
+    }
+    if is_zero(newer) {
+        return Recovered::Refused(Refusal::Climb);
+    }
+    Recovered::Neighbours(Resumed {
         climb: Climb {
             older,
             newer,
@@ -45,29 +56,7 @@ fn neighbours(s: Search) -> Resumed
             rungs: s.rungs,
         },
         next_offset: s.rungs + 2,
-    }
-}
-
-// The argument goes part by part: copied whole, the compiler packs the parts of both climbs' values too, and a rung of the fill takes 12 instructions
-// more for four on x86-64.
-fn unmet(s: Search) -> Shifted
-    ensures { result ≡ unmet_of s }
-{
-    let argument = s.argument;
-    let older = s.older;
-    let newer = s.newer;
-    Shifted {
-        argument: Complex {
-            re: argument.re,
-            im: argument.im,
-        },
-        climb: Climb {
-            older,
-            newer,
-            state: OverflowState::NearUnder,
-            rungs: s.rungs,
-        },
-    }
+    })
 }
 
 fn settled(s: Search) -> Recovered
@@ -75,9 +64,9 @@ fn settled(s: Search) -> Recovered
     ensures { result ≡ settled_of s }
 {
     if is_found(s) {
-        return Recovered::Neighbours(neighbours(s));
+        return neighbours(s);
     }
-    Recovered::Unmet(unmet(s))
+    Recovered::Refused(Refusal::Climb)
 }
 
 pub fn recover(

@@ -1,13 +1,11 @@
-//! `accuracy [SEED [PREFIX ..]]`: draws calls of K and I region by region and prints each with the first and last entries that libcapi.a and the Rust text as given, over std's functions, give.
+//! `accuracy [SEED]`: draws calls of K and I region by region and prints each with the first and last entries that libcapi.a and the Rust text over std's functions give.
 //! A line: region, K or I, scaled (0 or 1), n, the bits of v, re, im; the number of libcapi.a and its two entries; 1 or 0 for whether the text answered with finite entries, and its
 //! two entries. tools/accuracy/truth.c reads the lines. `accuracy log_gamma [SEED]`: the same for log-gamma, for tools/accuracy/log_gamma.py; log_gamma.rs has its lines.
-//! With prefixes, the regions alone whose names begin with one. `accuracy far [SEED]`: what correction E5 changed, for tools/accuracy/truth_far.c; far.rs has its lines.
 //! Each region is told on standard error when it is done.
 
 #[path = "../../driver/src/draw.rs"]
 #[allow(dead_code)]
 mod draw;
-mod far;
 mod log_gamma;
 #[path = "../../record.rs"]
 #[allow(dead_code)]
@@ -84,18 +82,14 @@ fn run(region: &Region, d: &mut Draw, out: &mut impl Write) {
 
 fn main() {
     let mut words: Vec<String> = std::env::args().skip(1).collect();
-    let named = words.first().filter(|word| ["log_gamma", "far"].contains(&word.as_str())).cloned();
-    words.drain(..named.is_some() as usize);
+    let of_log_gamma = words.first().is_some_and(|word| word == "log_gamma");
+    words.drain(..of_log_gamma as usize);
     let seed = words.first().map_or(644, |s| s.parse().expect("the seed is a whole number"));
-    match named.as_deref() {
-        Some("log_gamma") => return log_gamma::run(seed),
-        Some(_) => return far::run(seed),
-        None => {}
+    if of_log_gamma {
+        return log_gamma::run(seed);
     }
     let mut out = std::io::BufWriter::new(std::io::stdout().lock());
     for (place, region) in regions::regions().iter().enumerate() {
-        if words.len() < 2 || words[1..].iter().any(|prefix| region.key.starts_with(prefix)) {
-            run(region, &mut Draw::new(seed + (place as u64) * 0x1000_0000), &mut out);
-        }
+        run(region, &mut Draw::new(seed + (place as u64) * 0x1000_0000), &mut out);
     }
 }

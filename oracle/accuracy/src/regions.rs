@@ -126,7 +126,7 @@ fn k_axes(out: &mut Vec<Region>) {
     }
 }
 
-/// K unscaled, where e^-re is at or below the least numbers. Above 1,102 hardly an entry is not zero: the calls that are zeros alone are kept there too.
+/// K unscaled, where e^-re is at or below the least numbers. Between re 1,070 and 1,101 at the highest orders the answer can be far from the truth; above, all is refused.
 fn k_climb(out: &mut Vec<Region>) {
     let parts = [("665-701_order_0-50", 664.88, 700.92, 0.0, 50.0), ("701-1070_order_50-1000", 700.92, 1070.0, 50.0, 1000.0), ("1070-1101_order_890-1000", 1070.0, 1101.0, 890.0, 1000.0), ("1102-1200_order_50-1000", 1102.0, 1200.0, 50.0, 1000.0)];
     for (name, low, high, least, most) in parts {
@@ -138,7 +138,7 @@ fn k_climb(out: &mut Vec<Region>) {
                 Some(Ask { is_k: true, scaled: false, v, re, im, n })
             }),
         );
-        out.push(if low > 1101.0 { Region { zeros_count: true, ..part } } else { part });
+        out.push(if low > 1101.0 { Region { calls: 100, ..part } } else { part });
     }
 }
 
@@ -283,11 +283,12 @@ fn climb_pictures(out: &mut Vec<Region>) {
     }
 }
 
-/// The three answers that equal the Rust's and are far from the truth.
+/// The four answers that equal the Rust's and are far from the truth.
 fn far_from_the_truth(out: &mut Vec<Region>) {
     let b = f64::from_bits;
     for (name, is_k, v, re, im, n) in [
         ("holes", false, 3.0, 0.0, b(0x4022_5472_F9AB_882D), 417),
+        ("subnormal_seeds", true, 999.5, 1100.0, 0.0, 1),
         ("zero", true, b(0x3FE4_0BB0_4546_2AA4), b(0x0003_097A_26B1_16A6), b(0x0006_AA15_9D31_2637), 1),
         ("subnormal_order", true, b(1), 0.3, 0.0, 1),
     ] {

@@ -1,6 +1,5 @@
-//! Asking frames and the answer lines that the Rust text, corrected and as docs/SCOPE.md completes it, gives them: one pair a line, with a blank between.
-//! Every way of going wrong that a line has is among them, every refusal that the text meets, and every branch; what is missing fails the run. The text as
-//! given chooses the frames, so that a correction changes answers and no frame.
+//! Asking frames and the answer lines that the Rust text, as docs/SCOPE.md completes it, gives them: one pair a line, with a blank between. Every way of going wrong
+//! that a line has is among them, every refusal that the text meets, and every branch; what is missing fails the run.
 
 use crate::draw::{self, Call, Draw};
 use crate::reference::{self, Kind, Outcome};
@@ -87,7 +86,7 @@ pub fn print(count: u64, d: &mut Draw) {
         let fit: Vec<Call> = edges.into_iter().filter(|c| c.length % 2 == 0).collect();
         let step = (fit.len() as u64 * 8 / count.max(8)).max(1) as usize;
         for (i, c) in fit.iter().enumerate() {
-            let passed = reference::given(kind, c).map_or(0, |(_, passed)| passed);
+            let passed = reference::outcome(kind, c).map_or(0, |(_, passed)| passed);
             if passed & !reached != 0 || (i % step == 0 && c.length <= 12) {
                 reached |= passed;
                 calls.push((kind, *c, c.length / 2));
@@ -97,7 +96,7 @@ pub fn print(count: u64, d: &mut Draw) {
     // orders that are found lost on the way down need long visits
     while reached & draw::DEEP != draw::DEEP {
         let c = draw::call_i(d);
-        let passed = reference::given(Kind::I, &c).map_or(0, |(_, passed)| passed);
+        let passed = reference::outcome(Kind::I, &c).map_or(0, |(_, passed)| passed);
         if c.length % 2 == 0 && passed & draw::DEEP & !reached != 0 {
             reached |= passed;
             calls.push((Kind::I, c, c.length / 2));
@@ -124,14 +123,13 @@ pub fn print(count: u64, d: &mut Draw) {
         println!("{ask} {}", answer(&o));
     }
     let mut missed = false;
-    for (number, met) in numbers.iter().enumerate().filter(|(number, _)| ![6, 7, 10].contains(number)) {
+    for (number, met) in numbers.iter().enumerate().filter(|(number, _)| ![6, 10].contains(number)) {
         if *met == 0 {
             eprintln!("frames: none is answered by {number}");
             missed = true;
         }
     }
-    // the text as given, which chooses the frames, never lowers in the search for first orders
-    for (b, what, who) in BRANCHES.into_iter().filter(|(b, _, _)| *b != 31) {
+    for (b, what, who) in BRANCHES {
         if (who == "i" || who == "k") && branches >> b & 1 == 0 {
             eprintln!("frames: never taken: {what}");
             missed = true;

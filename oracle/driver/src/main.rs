@@ -1,25 +1,21 @@
-//! oracle ENTRY COUNT SEED: compares an entry point of libcapi.a (log_gamma, i, k) with the corrected Rust text, bit for bit: values, counts, refusal numbers
-//! and every cell of a buffer that was filled with rubbish first. ENTRY `limits` compares K and I, every third call outside the limits in one, two or three
-//! ways; `far` plain K from re=664 to 2,500, where it climbs out of underflow. Each call of K is run by the text as given too: changes.rs says where the two
-//! must agree, and counts the rest. ENTRY `text-i`, `text-k` or `text-far` compares the texts alone, without libcapi.a. The structured inputs come first where
-//! there are any, then COUNT random ones by SEED. `record` in the place of an ENTRY prints COUNT recorded answers of log-gamma, and `frames` COUNT asking
-//! frames each with its answer line, for replays without Rust. A difference prints the call in hexadecimal and fails the run. At the end: refusals by number,
-//! the largest counts, what the corrections changed, and how often each branch was taken; a branch that the domain reaches and the run did not is a failure
-//! too.
+//! oracle ENTRY COUNT SEED: compares an entry point of libcapi.a (log_gamma, i, k) with the Rust text, bit for bit: values, counts, refusal numbers and every
+//! cell of a buffer that was filled with rubbish first. ENTRY `limits` compares K and I, every third call outside the limits in one, two or three ways.
+//! ENTRY `text-i` or `text-k` compares the text with its counted copy alone. The structured inputs come first
+//! where there are any, then COUNT random ones by SEED. `record` in the place of an ENTRY prints COUNT recorded answers of log-gamma, and `frames` COUNT asking frames each with
+//! its answer line, for replays without Rust. A difference prints the call in hexadecimal and fails the run. At the end: refusals by number, the largest
+//! counts, and how often each branch was taken; a branch that the domain reaches and the run did not is a failure too.
 
-mod changes;
 mod draw;
 mod frames;
 mod port;
 mod reference;
 
-use changes::Changes;
 use draw::{Call, Draw};
 use reference::Kind;
 use std::process::exit;
 
 /// The branches of the counted copy (generate.py has the same numbers): for each, the name, and which entry point reaches it.
-pub const BRANCHES: [(u32, &str, &str); 38] = [
+pub const BRANCHES: [(u32, &str, &str); 35] = [
     (0, "I below the underflow limit", "i"),
     (2, "I order below the exponent limit", "i"),
     (3, "I stopped at a zeroed order", "i"),
@@ -48,16 +44,13 @@ pub const BRANCHES: [(u32, &str, &str); 38] = [
     (27, "K search met", "k"),
     (29, "K search for first orders", "k"),
     (30, "K two orders found", "k"),
-    (31, "K search lowered", "k"),
+    (31, "K search lowered", "-"),
     (32, "K scale state moved", "k"),
     (33, "log-gamma from the table", "log_gamma"),
     (34, "log-gamma shifted", "log_gamma"),
     (35, "log-gamma series", "log_gamma"),
     (36, "log-gamma series met its test", "log_gamma"),
     (37, "log-gamma shift undone", "log_gamma"),
-    (38, "K climb: handed to the search", "k"),
-    (39, "K climb: kept a zero", "-"),
-    (40, "K first orders: kept a zero", "-"),
 ];
 
 /// 0 and the refusals' numbers.
@@ -69,7 +62,6 @@ struct Tally {
     by_number: [u64; NUMBERS],
     branches: [u64; 64],
     longest: [u32; 3],
-    changes: Changes,
 }
 
 impl Tally {
@@ -114,12 +106,6 @@ fn bessel(kind: Kind, c: &Call, rubbish: u64, with_port: bool, t: &mut Tally) ->
         let n = (c.length / 2) as u32;
         if want.rungs != if r == 0 && n == 1 { 0 } else { r + n - 2 } {
             differs(format!("{call}: {} rungs", want.rungs));
-        }
-    }
-    if kind == Kind::K {
-        let (before, _) = reference::given(kind, c).unwrap_or_else(|e| differs(format!("{call}: as given: {e}")));
-        if let Err(e) = t.changes.add(&want, passed, &before) {
-            differs(format!("{call}: {e}\n  corrected {}\n  given     {}", short(&want), short(&before)));
         }
     }
     if !with_port {
@@ -195,7 +181,7 @@ fn record(count: u64, d: &mut Draw) {
 fn main() {
     let a: Vec<String> = std::env::args().skip(1).collect();
     let (Some(entry), Some(count), Some(seed)) = (a.first(), a.get(1).and_then(|s| s.parse::<u64>().ok()), a.get(2).and_then(|s| s.parse::<u64>().ok())) else {
-        eprintln!("usage: oracle log_gamma|i|k|limits|far|text-i|text-k|text-far|record|frames COUNT SEED");
+        eprintln!("usage: oracle log_gamma|i|k|limits|text-i|text-k|record|frames COUNT SEED");
         exit(2);
     };
     let mut d = Draw::new(seed);
@@ -208,7 +194,7 @@ fn main() {
         return;
     }
     println!("oracle {entry}: {count} random calls by the seed {seed}");
-    let mut t = Tally { calls: 0, compared: 0, by_number: [0; NUMBERS], branches: [0; 64], longest: [0; 3], changes: Changes::default() };
+    let mut t = Tally { calls: 0, compared: 0, by_number: [0; NUMBERS], branches: [0; 64], longest: [0; 3] };
     let name = entry.trim_start_matches("text-");
     let mut missed = false;
     match name {
@@ -232,20 +218,6 @@ fn main() {
                 bessel(kind, &c, rubbish, name == entry, &mut t);
             }
         }
-        "far" => {
-            for c in draw::far_edges() {
-                bessel(Kind::K, &c, 0x7FF0_0000_0000_0001, name == entry, &mut t);
-            }
-            for _ in 0..count {
-                let c = draw::call_far(&mut d);
-                let rubbish = d.bits();
-                bessel(Kind::K, &c, rubbish, name == entry, &mut t);
-            }
-            missed = !t.changes.met();
-            if missed {
-                println!("  the climb was never lowered, or never handed over");
-            }
-        }
         "limits" if name == entry => missed = !limits(count, &mut d, &mut t),
         _ => {
             eprintln!("oracle: no entry point {entry}");
@@ -255,8 +227,7 @@ fn main() {
     println!("{} calls, {} compared with libcapi.a, none different; longest sum {}, rungs {}, backward steps {}", t.calls, t.compared, t.longest[0], t.longest[1], t.longest[2]);
     let numbers: Vec<String> = t.by_number.iter().enumerate().filter(|(_, n)| **n > 0).map(|(i, n)| format!("{i}: {n}")).collect();
     println!("by number: {}", numbers.join(", "));
-    t.changes.print();
-    if missed && name == "limits" {
+    if missed {
         println!("  a way of lying outside the limits was not met, or fewer than a third of the calls lie there");
     }
     for (b, what, who) in BRANCHES {

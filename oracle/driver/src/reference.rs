@@ -1,5 +1,4 @@
-//! What docs/SCOPE.md says of a call, with the corrected Rust text for the kernels: its number, its counts and every cell; and the same of the text as given,
-//! which ends a climb without two neighbours on scale, or with a zero among them, in the retired number 7.
+//! What docs/SCOPE.md says of a call, with the Rust text for the kernels: its number, its counts and every cell.
 
 use crate::draw::Call;
 use num::complex::ComplexFloat;
@@ -78,60 +77,26 @@ fn bits(cells: &[Complex<f64>]) -> Vec<u64> {
     cells.iter().flat_map(|z| [z.re.to_bits(), z.im.to_bits()]).collect()
 }
 
-/// Runs one counted copy: the kernel's own answer, its cells and what it counted.
-macro_rules! counting {
-    ($copy:ident, $kind:expr, $c:expr) => {{
-        let mut cells = rubbish($c.length / 2);
-        $copy::count::begin();
-        let answer = kernel!($copy, $kind, $c, &mut cells);
-        let counts = $copy::count::taken();
-        let counts = Counts { longest_sum: counts.longest_sum, rungs: counts.rungs, backward: counts.backward, passed: counts.passed };
-        (answer, cells, counts)
-    }};
-}
-
-struct Counts {
-    longest_sum: u32,
-    rungs: u32,
-    backward: u32,
-    passed: u64,
-}
-
-/// The outcome, and the branches that the counted copy passed. The corrected text and its counted copy are compared with each other on the way.
+/// The outcome, and the branches that the counted copy passed. The two copies are compared with each other on the way.
 pub fn outcome(kind: Kind, c: &Call) -> Result<(Outcome, u64), String> {
     if let Some(number) = refused_before(kind, c) {
         return Ok((refusal(number, c.length), 0));
     }
-    let (answer, cells, counts) = counting!(counted, kind, c);
+    let n = c.length / 2;
+    let mut cells = rubbish(n);
+    counted::count::begin();
+    let answer = kernel!(counted, kind, c, &mut cells);
+    let counts = counted::count::taken();
     let zeros = match answer {
         Ok(zeros) => zeros,
-        Err(2) => return Err("the corrected text ends in the retired number 7".to_string()),
-        // the refusal that the counted copy adds, and the search that ended unmet
+        // the two refusals that the counted copy adds, and the search that ended unmet
+        Err(2) => return Ok((refusal(7, c.length), counts.passed)),
         Err(_) => return Ok((refusal(6, c.length), counts.passed)),
     };
-    let mut plain = rubbish(c.length / 2);
+    let mut plain = rubbish(n);
     if kernel!(text, kind, c, &mut plain) != Ok(zeros) || bits(&plain) != bits(&cells) {
         return Err("the text and its counted copy differ".to_string());
     }
-    Ok((finished(kind, c, zeros, cells, &counts)?, counts.passed))
-}
-
-/// The same of the text as given.
-pub fn given(kind: Kind, c: &Call) -> Result<(Outcome, u64), String> {
-    if let Some(number) = refused_before(kind, c) {
-        return Ok((refusal(number, c.length), 0));
-    }
-    let (answer, cells, counts) = counting!(given, kind, c);
-    let outcome = match answer {
-        Ok(zeros) => finished(kind, c, zeros, cells, &counts)?,
-        Err(2) => refusal(7, c.length),
-        Err(_) => refusal(6, c.length),
-    };
-    Ok((outcome, counts.passed))
-}
-
-/// A kernel's answer as an entry point gives it: unfinished cells hold the fixed not-a-number, and one that is not finite is refused.
-fn finished(kind: Kind, c: &Call, zeros: isize, mut cells: Vec<Complex<f64>>, counts: &Counts) -> Result<Outcome, String> {
     let unwritten = |z: &Complex<f64>| z.re.to_bits() == RUBBISH && z.im.to_bits() == RUBBISH;
     let mut finished = 0;
     if kind == Kind::I && Complex::new(c.re + 0.0, c.im).abs() < 1000.0 * f64::MIN_POSITIVE {
@@ -140,7 +105,7 @@ fn finished(kind: Kind, c: &Call, zeros: isize, mut cells: Vec<Complex<f64>>, co
             *z = Complex::new(0.0, 0.0);
         }
     } else if zeros < 0 {
-        finished = cells.iter().position(|z| !unwritten(z)).unwrap_or(cells.len());
+        finished = cells.iter().position(|z| !unwritten(z)).unwrap_or(n);
         for z in &mut cells[..finished] {
             *z = Complex::new(f64::from_bits(FIXED), f64::from_bits(FIXED));
         }
@@ -149,9 +114,10 @@ fn finished(kind: Kind, c: &Call, zeros: isize, mut cells: Vec<Complex<f64>>, co
         return Err("the text left a cell unwritten".to_string());
     }
     if cells[finished..].iter().any(|z| !z.is_finite()) {
-        return Ok(refusal(8, c.length));
+        return Ok((refusal(8, c.length), counts.passed));
     }
-    Ok(Outcome { number: 0, zeros: zeros as i32, longest_sum: counts.longest_sum, rungs: counts.rungs, backward: counts.backward, cells: bits(&cells) })
+    let outcome = Outcome { number: 0, zeros: zeros as i32, longest_sum: counts.longest_sum, rungs: counts.rungs, backward: counts.backward, cells: bits(&cells) };
+    Ok((outcome, counts.passed))
 }
 
 /// Log-gamma: its number, and the value's bits (the fixed not-a-number where it is refused).

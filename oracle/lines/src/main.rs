@@ -1,4 +1,4 @@
-//! The frame program around the Rust text as given, over std's functions, for times: the same reading and writing in pieces of 64 KiB, digits by tables, the text's kernels
+//! The frame program around the Rust text over std's functions, for times: the same reading and writing in pieces of 64 KiB, digits by tables, the text's kernels
 //! behind the checks of docs/SCOPE.md. Its answers have the text's bits over std, so they need not equal ours; counts other than the zeros are left at 0.
 
 use num_std::Complex;

@@ -1,4 +1,4 @@
-//! Times log-gamma, I and K of libcapi.a against the Rust text as given, over std's functions, on the same arguments, in one process, interleaved. A run is the best of many rounds; of several runs
+//! Times log-gamma, I and K of libcapi.a against the Rust text over std's functions, on the same arguments, in one process, interleaved. A run is the best of many rounds; of several runs
 //! the least, the median and the largest are printed, behind what they were measured on. `speed [ROUNDS [LETTERS [RUNS]]]`: 400 rounds, 7 runs; LETTERS times those workloads alone.
 //! Log-gamma, throughput: independent calls; latency: each argument waits for the value before it. I and K: the whole entry point, every check and the record included,
 //! against the text's kernel alone. The workloads: K scaled, a: v=0, n=2, re=im from 2^-7 to 2^6; b: v<50, n=10, |z| from 0.1 to 50; B: as b, unscaled; c: v=1000, n=512,

@@ -1,7 +1,6 @@
 //! Reads calls, one a line: K or I, scaled (0 or 1), cells lent, then the bits of v, re and im in hexadecimal; the rest of a line is a remark. Prints what each of these makes of it:
 //!   given  the Rust text with no line changed, over its own constants and std's elementary functions
-//!   before K alone: the same, completed by docs/SCOPE.md as it stood before E5, with refusal 7
-//!   text   the Rust text with the corrections of oracle/corrections, as completed by docs/SCOPE.md
+//!   text   the Rust text as completed by docs/SCOPE.md
 //!   644    the Fortran, where it was compiled in; its start is the number of Miller's backward steps
 //!   here   this project
 use std::io::BufRead;
@@ -39,7 +38,7 @@ fn one(x: f64) -> String {
 }
 
 fn print(name: &str, verdict: &str, cells: &[f64]) {
-    println!("  {name:6} {verdict}");
+    println!("  {name:5} {verdict}");
     let n = cells.len() / 2;
     for k in (0..n).filter(|&k| k < 3 || k + 1 == n) {
         println!("        [{k}] {} {}", one(cells[2 * k]), one(cells[2 * k + 1]));
@@ -61,7 +60,6 @@ macro_rules! run {
         }));
         let verdict = match r {
             Ok(Ok(n)) => format!("zeros {n}{}", $counts),
-            Ok(Err(e)) if $name == "before" && matches!(e.error_code(), 2) => "refusal 7".to_string(),
             Ok(Err(e)) => format!("error {e:?}"),
             Err(_) => "panics".to_string(),
         };
@@ -100,9 +98,6 @@ fn main() {
         println!("{line}");
         println!("  v={:?} z={:?} + i*{:?}", c.v, c.re, c.im);
         run!("given", given, num_std, &c, "");
-        if !c.i {
-            run!("before", before, num, &c, "");
-        }
         run!("text", text, num, &c, counts(&c));
         if let Some((verdict, cells)) = algorithm_644::run(c.i, c.scaled, c.length / 2, c.v, c.re, c.im) {
             print("644", &verdict, &cells);

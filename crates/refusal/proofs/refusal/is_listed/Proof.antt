@@ -1,6 +1,6 @@
 -- `refusal::refusal::is_listed` meets its contract, by the tests in their order. Assumes nothing.
 use native.Mathlib.Omega.{arith}
-use borrow.Author.Tests.{lt-ltb, le-ltb, le-leb, lt-leb, eq-eqb, ne_eqb}
+use borrow.Author.Tests.{lt-ltb, le-ltb, le-leb, lt-leb, ne_eqb}
 use Rattle.refusal.specs.Number.{is_listed}
 use Rattle.refusal.proofs.refusal.is_listed.Statement.{statement}
 use Rattle.refusal.proofs.refusal.is_listed.Tie as tie
@@ -13,21 +13,11 @@ returns c =
 
 returns-2 : tie.Need-returns-2
 unfolding is_listed
-returns-2 c = rw c.if2.true
+returns-2 c = simp (lt-ltb 0 c.before.before.args.number (omega (arith, c.before.if1.false)), le-leb _ _ c.if2.true)
 
 returns-3 : tie.Need-returns-3
 unfolding is_listed
-returns-3 c =
-    let d = c.before.before in
-    let n = d.before.args.number in
-    simp (lt-ltb 0 n (omega (arith, d.if1.false)), le-leb _ _ c.if3.true, ne_eqb n 7 c.before.if2.false)
-
-returns-4 : tie.Need-returns-4
-unfolding is_listed
-returns-4 c =
-    let d = c.before.before in
-    let n = d.before.args.number in
-    rw (lt-ltb 0 n (omega (arith, d.if1.false)), lt-leb n 13 c.if3.false)
+returns-3 c = simp (lt-ltb 0 c.before.before.args.number (omega (arith, c.before.if1.false)), lt-leb _ _ c.if2.false)
 
 pub is-listed-spec : {M : Type 1} → statement M
-is-listed-spec = tie.close (tie.spec returns returns-2 returns-3 returns-4)
+is-listed-spec = tie.close (tie.spec returns returns-2 returns-3)

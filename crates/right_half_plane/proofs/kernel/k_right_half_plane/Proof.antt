@@ -4,7 +4,7 @@ use native.Mathlib.Omega.{arith}
 use Rattle.complex.specs.Functions.{modulus_of}
 use Rattle.right_half_plane.specs.declared.ground.Ground.{Ground}
 use Rattle.right_half_plane.specs.Ground.{Sized, ground_of}
-use Rattle.right_half_plane.specs.Kernel.{lead_kernel, pair_kernel, finished_kernel, refused_kernel, seeds_kernel, after_if, afterwards}
+use Rattle.right_half_plane.specs.Kernel.{finished_kernel, refused_kernel, seeds_kernel, after_if, afterwards}
 use Rattle.right_half_plane.proofs.Answers.{finished-alone, kernel-as}
 use Rattle.right_half_plane.proofs.OrderFacts.{ground-sized}
 use borrow.Author.Rules.{rules}
@@ -63,7 +63,7 @@ same-length-2 : tie.Need-same-length-2
 same-length-2 c = search rules
 
 returns-2 : tie.Need-returns-2
-unfolding seeds_kernel pair_kernel lead_kernel afterwards after_if
+unfolding seeds_kernel
 returns-2 c =
     let f = c.before.before in
     let m = f.before.before.before in

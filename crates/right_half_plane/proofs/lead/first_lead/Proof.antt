@@ -19,9 +19,9 @@ times-real-requires c κs = search rules
 times-real-requires-2 : tie.Need-times-real-requires-2
 times-real-requires-2 c κs = search rules
 
-add-t12 : tie.Need-overflow-add-t12
-add-t12 c = let d = c.before.before.before.before.before.before in
-    let h : d.first-orders.result.rungs ≤ 512 = subst (λ (s : FirstOrders). s.rungs ≤ 512) (sym d.first-orders.ensures) (first-few _ _ _ _ _ _ c.before.before.before.before.before.before.before.before.before.before.requires.0.few) in
+add-t11 : tie.Need-overflow-add-t11
+add-t11 c = let d = c.before.before.before.before.before.before in
+    let h : d.first-orders.result.rungs ≤ 512 = subst (λ (s : FirstOrders). s.rungs ≤ 512) (sym d.first-orders.ensures) (first-few _ _ _ _ _ _ c.before.before.before.before.before.before.before.before.before.requires.0.few) in
     omega arith
 
 returns : tie.Need-returns
@@ -29,4 +29,4 @@ unfolding first_lead tolerance
 returns c = simp (c.before.before.times-real2.ensures, c.before.before.before.times-real.ensures, c.before.before.before.before.before.before.first-orders.ensures)
 
 pub first-lead-spec : {M : Type 1} → statement M
-first-lead-spec = tie.close (tie.spec first-orders-requires times-real-requires times-real-requires-2 add-t12 returns)
+first-lead-spec = tie.close (tie.spec first-orders-requires times-real-requires times-real-requires-2 add-t11 returns)

@@ -4,7 +4,7 @@ use Prim.Native.Nat.{◌≤◌}
 use native.Mathlib.Nat.{le_trans}
 use native.Mathlib.Omega.{arith}
 use Rattle.recurrence.specs.declared.search.Search.{Search}
-use Rattle.right_half_plane.specs.Recover.{climb_end, recover_of}
+use Rattle.right_half_plane.specs.Recover.{recover_of}
 use Rattle.right_half_plane.proofs.Counts.{recovery-rungs}
 use borrow.Author.Rules.{rules}
 use Rattle.right_half_plane.proofs.recover.recover.Statement.{statement}
@@ -29,7 +29,7 @@ settled-requires c κs =
     subst (λ (s : Search). s.rungs ≤ 1000) (sym c.search-from.ensures) (le_trans (recovery-rungs _ _ _ _ z) a.before.before.before.requires)
 
 returns : tie.Need-returns
-unfolding recover_of climb_end
+unfolding recover_of
 returns c =
     let a = c.before.before in
     let f = a.before in

@@ -15,12 +15,9 @@ returns : tie.Need-returns
 unfolding settled_of
 returns c = simp (c.neighbours.ensures, sym c.before.before.is_found.ensures ∙ c.before.if1.true)
 
-unmet-requires : tie.Need-unmet-requires
-unmet-requires c κs = search rules
-
 returns-2 : tie.Need-returns-2
 unfolding settled_of
-returns-2 c = simp (c.unmet.ensures, sym c.before.before.is_found.ensures ∙ c.before.if1.false)
+returns-2 c = simp (sym c.before.is_found.ensures ∙ c.if1.false)
 
 pub settled-spec : {M : Type 1} → statement M
-settled-spec = tie.close (tie.spec is-found-requires neighbours-requires returns unmet-requires returns-2)
+settled-spec = tie.close (tie.spec is-found-requires neighbours-requires returns returns-2)

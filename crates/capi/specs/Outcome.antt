@@ -1,6 +1,6 @@
 -- Outcomes as the records that cross the C boundary. Definitions only.
 use Rattle.std.specs.Prelude.{ℕ, Bool, not, eqb, Float}
-use Rattle.machine.specs.Constants.{not_aNumber}
+use Rattle.machine.specs.Constants.{not_a_number}
 use Rattle.refusal.specs.Number.{number_of}
 use Rattle.gamma_ln.specs.declared.log_gamma.LogGamma as outcomes
 use Rattle.gamma_ln.specs.declared.log_gamma.LogGamma.TheVariants.{Value, Refused}
@@ -13,7 +13,7 @@ use Rattle.capi.specs.declared.Sweep.{Sweep}
 
 abbrev pub outcome_of : outcomes.LogGamma → LogGamma
 outcome_of (Value v) = record { value = v; number = 0 }
-outcome_of (Refused r) = record { value = not_aNumber; number = number_of r }
+outcome_of (Refused r) = record { value = not_a_number; number = number_of r }
 
 -- scaled: 0 no, any other yes
 abbrev pub is_scaled : ℕ → Bool

@@ -3,7 +3,7 @@ use Rattle.std.specs.Prelude.{Bool, cond, ◌&&◌, eqb, get_or, Float}
 use Rattle.std.specs.Float.{nan, binary64}
 use Rattle.std.specs.Float.Ieee.{of_bits, to_unsigned, lt, le, eq}
 use Rattle.laws.specs.Operators.{◌⊕◌, ◌⊖◌, ◌⊗◌}
-use Rattle.machine.specs.Constants.{gamma_ln_minimum, not_aNumber}
+use Rattle.machine.specs.Constants.{gamma_ln_minimum, not_a_number}
 use Rattle.machine.specs.Small.{nothing, half, one}
 use Rattle.rounding.specs.Round.{round_of}
 use Rattle.logarithm.specs.Ln.{ln_of}
@@ -56,5 +56,5 @@ summed_of x = cond (lt x gamma_ln_minimum) (shifted_of x) (stirling_of x)
 -- of 0 or less it is no number; of a not-a-number and of infinity it is what the formula gives
 unfoldable pub gamma_ln_of : Float → Computed
 gamma_ln_of x =
-    cond (le x nothing) (record { value = not_aNumber; factors = 0; terms = 0 })
+    cond (le x nothing) (record { value = not_a_number; factors = 0; terms = 0 })
     (cond (is_tabulated x) (record { value = tabulated_of x; factors = 0; terms = 0 }) (summed_of x))

@@ -72,6 +72,10 @@ no_size : (u d : ℕ) → 0 * u * d ≡ 0
 no_size u d = ap (λ (x : ℕ). x * d) (zero-mul u) ∙ zero-mul d
 
 pub unique : (f : Format) (x y : Float) (s : Bool) (a c b d : ℕ) → 0 < c → 0 < d → T (fits f x) → T (fits f y) → HasValue x s a c → HasValue y s b d → a * d ≡ b * c → x ≡ y
+unique f nan y s a c b d C D p q v w h = elim v [ ]
+unique f (inf _) y s a c b d C D p q v w h = elim v [ ]
+unique f (fin t m e) nan s a c b d C D p q v w h = elim w [ ]
+unique f (fin t m e) (inf _) s a c b d C D p q v w h = elim w [ ]
 unique f (fin t m e) (fin u n g) s a c b d C D p q v w h = go m n p q cross
   where
     w' : n * up g * c ≡ a * down g
@@ -94,6 +98,10 @@ unique f (fin t m e) (fin u n g) s a c b d C D p q v w h = go m n p q cross
 -- ---- the product at any fractions that the factors equal, and where it is exact
 pub mul-value : (f : Format) (x y : Float) (s t : Bool) (a c b d : ℕ) → 0 < c → 0 < d → HasValue x s a c → HasValue y t b d → mul f x y ≡ round f (unlike s t) (a * b) (c * d)
 unfolding mul
+mul-value f nan y s t a c b d C D v w = elim v [ ]
+mul-value f (inf _) y s t a c b d C D v w = elim v [ ]
+mul-value f (fin s' m e) nan s t a c b d C D v w = elim w [ ]
+mul-value f (fin s' m e) (inf _) s t a c b d C D v w = elim w [ ]
 mul-value f (fin s' m e) (fin t' n g) s t a c b d C D v w =
     ap (λ (z : Bool). round f (unlike z t') (m * up e * (n * up g)) (down e * down g)) v.0
     ∙ ap (λ (z : Bool). round f (unlike s z) (m * up e * (n * up g)) (down e * down g)) w.0

@@ -30,8 +30,8 @@ unfoldable pub gamma_ln_minimum : Float
 gamma_ln_minimum = of_bits binary64 0x401C000000000000
 
 -- the one not-a-number that is ever stored; that its bits are 7FF8000000000000 is run, since the logic has one `nan`
-abbrev pub not_aNumber : Float
-not_aNumber = nan
+abbrev pub not_a_number : Float
+not_a_number = nan
 
 unfoldable pub machine_constants : Machine
 unfolding tolerance inverse_tolerance exponent_limit approximation_limit underflow_limit absolute_approximation_limit gamma_ln_minimum

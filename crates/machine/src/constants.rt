@@ -1,7 +1,7 @@
 // What Algorithm 644 asks of its machine, for f64: associated constants of one type, cited by every kernel.
 // Each has its definition, by its bits, in specs/Constants.antt; `constants` shows that they agree.
 ghost use Rattle.std.specs.Prelude.{◌≡◌};
-ghost use Rattle.machine.specs.Constants.{machine_constants, not_aNumber};
+ghost use Rattle.machine.specs.Constants.{machine_constants, not_a_number};
 
 #[derive(Drop)]
 pub struct Machine {
@@ -49,7 +49,7 @@ pub fn constants() -> Machine
 // The one not-a-number that is ever stored. The compiler folds the quotient to the bits 7FF8000000000000, which the C boundary's
 // tests look at: a constant of the language cannot hold a not-a-number.
 pub fn not_a_number() -> f64
-    ensures { result ≡ not_aNumber }
+    ensures { result ≡ not_a_number }
 {
     0.0 / 0.0
 }

@@ -24,7 +24,7 @@ use Rattle.miller.specs.declared.seeds.MillerSeeds.TheVariants.{Pair, Refused}
 use Rattle.miller.specs.Whole.{truncated}
 use Rattle.miller.specs.Trials.{met_after, trials_taken, trial_index}
 use Rattle.miller.specs.Search.{is_start, start_from, threshold, raw_start, corrected, convergence_test, by_recurrence, formula_of, start_of}
-use Rattle.miller.specs.NoStart.{none_of, trials_unmet, no_number, minus_one_or_less, above_cap, not_aStart, start_by_trials, no_start}
+use Rattle.miller.specs.NoStart.{none_of, trials_unmet, no_number, minus_one_or_less, above_cap, not_a_start, start_by_trials, no_start}
 use Rattle.miller.specs.Seeds.{seeds_at, seeds_of}
 
 -- ---- a start that is none
@@ -58,8 +58,8 @@ cap-exactly n = go (leb n 256) refl
     go true e = le-ltb 256 n (leb-true n 256 e)
     go false e = lt-ltb 256 n (leb-false n 256 e)
 
-from-exactly : (raw : Float) → not_aStart raw ≡ is_unmet (start_from raw)
-unfolding not_aStart no_number minus_one_or_less above_cap start_from is_start
+from-exactly : (raw : Float) → not_a_start raw ≡ is_unmet (start_from raw)
+unfolding not_a_start no_number minus_one_or_less above_cap start_from is_start
 from-exactly raw = go (finite raw) refl
   where
     by : (b c : Bool) → (not b || not c) ≡ is_unmet (cond (b && c) (At (truncated raw)) Unmet)
@@ -107,14 +107,14 @@ module _ (test : ℕ → Bool) where
 
 -- ---- the search
 module _ (point : Point) (order : Order) where
-  trials-exactly : (trials_unmet point order || not_aStart (start_by_trials point order)) ≡ is_unmet (corrected point (trial_index point.modulus order.square (convergence_test point order)))
+  trials-exactly : (trials_unmet point order || not_a_start (start_by_trials point order)) ≡ is_unmet (corrected point (trial_index point.modulus order.square (convergence_test point order)))
   unfolding trials_unmet start_by_trials trial_index trials_taken corrected
   trials-exactly =
       let test = met_after point.modulus order.square (convergence_test point order) in
-      ap (λ (b : Bool). b || not_aStart (start_by_trials point order)) (first-none test) ∙ go (leb (first_from test 30 1) 30)
+      ap (λ (b : Bool). b || not_a_start (start_by_trials point order)) (first-none test) ∙ go (leb (first_from test 30 1) 30)
     where
       go : (b : Bool) → let i = first_from (met_after point.modulus order.square (convergence_test point order)) 30 1 in
-          (not b || not_aStart (raw_start point (i + 1))) ≡ is_unmet (corrected point (cond b (At (i + 1)) Unmet))
+          (not b || not_a_start (raw_start point (i + 1))) ≡ is_unmet (corrected point (cond b (At (i + 1)) Unmet))
       go true = from-exactly _
       go false = refl
 
@@ -123,7 +123,7 @@ module _ (point : Point) (order : Order) where
   no-start-exactly = go (lt threshold point.modulus) (le (convergence_test point order) one)
     where
       go : (a b : Bool) →
-          cond a (not b && (trials_unmet point order || not_aStart (start_by_trials point order))) (not_aStart (formula_of point order.rotation))
+          cond a (not b && (trials_unmet point order || not_a_start (start_by_trials point order))) (not_a_start (formula_of point order.rotation))
           ≡ is_unmet (cond a (cond b (At 1) (corrected point (trial_index point.modulus order.square (convergence_test point order)))) (start_from (formula_of point order.rotation)))
       go true true = refl
       go true false = trials-exactly

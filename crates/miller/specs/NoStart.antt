@@ -30,8 +30,8 @@ minus_one_or_less raw = le raw (neg one)
 unfoldable pub above_cap : Float → Bool
 above_cap raw = ltb 256 (truncated raw)
 
-unfoldable pub not_aStart : Float → Bool
-not_aStart raw = no_number raw || minus_one_or_less raw || above_cap raw
+unfoldable pub not_a_start : Float → Bool
+not_a_start raw = no_number raw || minus_one_or_less raw || above_cap raw
 
 -- the start that the trials give: one more than the first trial that is met, corrected by the angle
 unfoldable pub start_by_trials : Point → Order → Float
@@ -41,5 +41,5 @@ start_by_trials point order = raw_start point (trials_taken point.modulus order.
 unfoldable pub no_start : Point → Order → Bool
 no_start point order =
     cond (lt threshold point.modulus)
-    (not (le (convergence_test point order) one) && (trials_unmet point order || not_aStart (start_by_trials point order)))
-    (not_aStart (formula_of point order.rotation))
+    (not (le (convergence_test point order) one) && (trials_unmet point order || not_a_start (start_by_trials point order)))
+    (not_a_start (formula_of point order.rotation))

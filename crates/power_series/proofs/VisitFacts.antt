@@ -12,7 +12,7 @@ use lib.ListN.{length, replicate, length-append, length-replicate}
 use lib.Ieee.{Float}
 use Rattle.laws.specs.Run.{run}
 use Rattle.laws.proofs.Run.{Ends, run_ends}
-use Rattle.machine.specs.Constants.{not_aNumber}
+use Rattle.machine.specs.Constants.{not_a_number}
 use Rattle.machine.specs.Small.{nothing}
 use Rattle.complex.specs.declared.number.Complex.{Complex}
 use Rattle.series_step.specs.declared.setting.Setting.{Setting}
@@ -139,7 +139,7 @@ module _ (g : Setting) (n : ℕ) where
   pub record Stopped : Type 0 where
     pub low : (visit_of g n).visit.place < n
     pub rest : List Float
-    pub cells : (visit_of g n).cells ≡ replicate ((visit_of g n).visit.place * 2) not_aNumber ++ (nothing ∷ nothing ∷ rest)
+    pub cells : (visit_of g n).cells ≡ replicate ((visit_of g n).visit.place * 2) not_a_number ++ (nothing ∷ nothing ∷ rest)
 
   pub stopped-cells : (visit_of g n).visit.stopped ≡ true → Stopped
   unfolding visit_of visited_of
@@ -148,7 +148,7 @@ module _ (g : Setting) (n : ℕ) where
       let begun : 0 < ended.k = along.begun e in
       let few = within in
       let z = along.zero-entry e in
-      record { low = omega arith; rest = z.0; cells = ap (λ (l : List Float). replicate ((walk_of g n).standing.left * 2) not_aNumber ++ l) z.1 }
+      record { low = omega arith; rest = z.0; cells = ap (λ (l : List Float). replicate ((walk_of g n).standing.left * 2) not_a_number ++ l) z.1 }
 
   -- one that did not stop went through all orders
   pub whole : (visit_of g n).visit.stopped ≡ false → (visit_of g n).visit.place ≡ 0

@@ -2,7 +2,7 @@
 -- what counts, and what the cells hold, re before im, the lowest order first. Definitions only.
 use Rattle.std.specs.Prelude.{Bool, List, [], ◌∷◌, ◌++◌, ℕ, ◌-◌, ◌*◌, replicate, Float}
 use Rattle.laws.specs.Run.{run}
-use Rattle.machine.specs.Constants.{not_aNumber}
+use Rattle.machine.specs.Constants.{not_a_number}
 use Rattle.series_step.specs.declared.setting.Setting.{Setting}
 use Rattle.series_step.specs.declared.descent.Descent.{Descent}
 use Rattle.series_step.specs.Descent.{start_descent}
@@ -50,7 +50,7 @@ visited_of w =
         longest_sum = s.counts.longest_sum;
         rungs = s.counts.rungs;
       };
-      cells = replicate (w.standing.left * 2) not_aNumber ++ w.cells;
+      cells = replicate (w.standing.left * 2) not_a_number ++ w.cells;
     }
 
 unfoldable pub visit_of : Setting → ℕ → Visited

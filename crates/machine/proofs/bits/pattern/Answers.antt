@@ -1,0 +1,14 @@
+-- `machine::bits::pattern` meets its contract: what differs from itself is `nan`, whose pattern is written. Assumes nothing.
+use mathlib.Core.Path.{refl, sym, subst}
+use lib.Dec.{T}
+use lib.Ieee.{to_bits}
+use lib.Ieee.Compare.{differs_from_itself}
+use Rattle.machine.proofs.NotANumber.{equals_itself}
+use Rattle.machine.proofs.bits.pattern.Goals as goal
+
+pub returns-then-x : goal.returns-then-x
+unfolding to_bits
+returns-then-x c = rw (differs_from_itself c.args.x (subst T (sym c.if-x.true) tt)) refl
+
+pub float_to_bits-result : goal.float_to_bits-result
+float_to_bits-result c = equals_itself c.args.x c.if-x.false

@@ -1,4 +1,6 @@
 // The powers of e that exp is put together from, each in two parts; a crate of their own, since a table's proof is long.
+#![tactic(auto)]
+
 pub mod tables;
 
 // A value as a leading part and what is left of it.

@@ -1,3 +1,5 @@
 // The numbers that log-gamma looks up: the coefficients of its series and its values at whole arguments; a crate of their own, since a
 // table's proof is long.
+#![tactic(auto)]
+
 pub mod tables;

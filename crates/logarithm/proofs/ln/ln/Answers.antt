@@ -16,25 +16,31 @@ float_to_bits-bits c = equals_itself c.args.x c.if-x.false
 
 pub returns-then-bits-eq0 : goal.returns-then-bits-eq0
 returns-then-bits-eq0 c =
-    minus-infinity ∙ sym (at_zero c.args.x (subst T (sym c.well_formed.0.1) tt) c.if-bits-eq0.true)
+    let start = c in
+    minus-infinity ∙ sym (at_zero start.args.x (subst T (sym start.well_formed.0.1) tt) c.if-bits-eq0.true)
 
 pub returns-then-bits-lt4503599627370496 : goal.returns-then-bits-lt4503599627370496
 returns-then-bits-lt4503599627370496 c =
-    c.of_narrow.ensures ∙ sym (narrow c.args.x (subst T (sym c.well_formed.0.1) tt) (omega arith) c.if-bits-lt4503599627370496.true)
+    let start = c in
+    c.of_narrow.ensures ∙ sym (narrow start.args.x (subst T (sym start.well_formed.0.1) tt) (omega arith) c.if-bits-lt4503599627370496.true)
 
 pub returns-then-bits-lt9218868437227405312 : goal.returns-then-bits-lt9218868437227405312
 returns-then-bits-lt9218868437227405312 c =
-    c.of_wide.ensures ∙ sym (wide c.args.x (subst T (sym c.well_formed.0.1) tt) c.if-bits-lt4503599627370496.false c.if-bits-lt9218868437227405312.true)
+    let start = c in
+    c.of_wide.ensures ∙ sym (wide start.args.x (subst T (sym start.well_formed.0.1) tt) c.if-bits-lt4503599627370496.false c.if-bits-lt9218868437227405312.true)
 
 pub returns-then-bits-eq9218868437227405312 : goal.returns-then-bits-eq9218868437227405312
 returns-then-bits-eq9218868437227405312 c =
-    sym (at-infinity c.args.x (subst T (sym c.well_formed.0.1) tt) c.if-bits-eq9218868437227405312.true)
+    let start = c in
+    sym (at-infinity start.args.x (subst T (sym start.well_formed.0.1) tt) c.if-bits-eq9218868437227405312.true)
 
 pub returns-then-bits : goal.returns-then-bits
 returns-then-bits c =
-    minus-infinity ∙ sym (at-minus-zero c.args.x (subst T (sym c.well_formed.0.1) tt) c.if-bits.true)
+    let start = c in
+    minus-infinity ∙ sym (at-minus-zero start.args.x (subst T (sym start.well_formed.0.1) tt) c.if-bits.true)
 
 pub returns : goal.returns
 returns c =
+    let start = c in
     c.not_a_number-2.ensures
-    ∙ sym (other c.args.x (subst T (sym c.well_formed.0.1) tt) c.if-bits-lt9218868437227405312.false c.if-bits-eq9218868437227405312.false c.if-bits.false)
+    ∙ sym (other start.args.x (subst T (sym start.well_formed.0.1) tt) c.if-bits-lt9218868437227405312.false c.if-bits-eq9218868437227405312.false c.if-bits.false)

@@ -11,6 +11,7 @@ use Rattle.logarithm.specs.Ln.{ln_wide, ln_narrow}
 use Rattle.logarithm.proofs.Width.{Shifted, shifted}
 use Rattle.logarithm.proofs.ln.of_narrow.Goals as goal
 
+-- the shift's result is below 2^64, so it is the product
 kept : (bits : ℕ) → Shifted bits → bits * 2 ^ (count_leading_zeros 64 bits - 11) % 2 ^ 64 ≡ bits * 2 ^ (count_leading_zeros 64 bits - 11)
 kept bits s = mod-eq_of_lt (lt_of_lt_of_le s.high (lit≤ tt))
 

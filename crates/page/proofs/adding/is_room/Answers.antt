@@ -6,8 +6,7 @@ use native.Mathlib.Omega.{arith}
 use borrow.Author.Tests.{le-leb, lt-leb, leb-true, leb-false}
 use lib.Dec.{leb}
 use Rattle.page.specs.Layout.{most_lines}
-use Rattle.page.proofs.adding.is_room.Statement.{statement}
-use Rattle.page.proofs.adding.is_room.Tie as tie
+use Rattle.page.proofs.adding.is_room.Goals as goal
 
 moved : (a b : ℕ) → a ≤ most_lines → leb b (most_lines - a) ≡ leb (a + b) most_lines
 moved a b h = go (leb b (most_lines - a)) refl
@@ -16,11 +15,8 @@ moved a b h = go (leb b (most_lines - a)) refl
     go true e = simp (e, le-leb (a + b) most_lines (let k = leb-true b (most_lines - a) e in omega arith))
     go false e = simp (e, lt-leb (a + b) most_lines (let k = leb-false b (most_lines - a) e in omega arith))
 
-returns : tie.Need-returns
-returns c = let a = c.before.args in sym (lt-leb (a.into + a.from) most_lines (omega (arith, c.if1.true)))
+pub returns-then-into-gt-MOST_LINES : goal.returns-then-into-gt-MOST_LINES
+returns-then-into-gt-MOST_LINES c = let a = c.args in sym (lt-leb (a.into + a.from) most_lines (omega (arith, c.if-into-gt-MOST_LINES.true)))
 
-returns-2 : tie.Need-returns-2
-returns-2 c = moved _ _ c.if1.false
-
-pub is-room-spec : {M : Type 1} → statement M
-is-room-spec = tie.close (tie.spec returns returns-2)
+pub returns : goal.returns
+returns c = moved _ _ c.if-into-gt-MOST_LINES.false

@@ -16,7 +16,7 @@ pub struct Sum {
 }
 
 // The error estimate, the denominator of the next term, and by how much that grows.
-#[derive(Drop)]
+#[derive(Clone, Copy)]
 pub struct Estimate {
     pub error: f64,
     pub denominator: f64,
@@ -24,7 +24,7 @@ pub struct Estimate {
 }
 
 // A sum under way, its last term, and how many terms are in it.
-#[derive(Drop)]
+#[derive(Clone, Copy)]
 pub struct Partial {
     pub value: Complex,
     pub term: Complex,

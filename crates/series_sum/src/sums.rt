@@ -24,7 +24,7 @@ pub struct Partials {
 }
 
 // At what error each sum ends.
-#[derive(Drop)]
+#[derive(Clone, Copy)]
 pub struct Tolerances {
     pub higher: f64,
     pub lower: f64,

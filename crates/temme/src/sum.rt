@@ -9,7 +9,7 @@ use complex::number::Complex;
 use machine::constants::Machine;
 
 // What each turn takes: z²/4, |z|²/4, the fraction ν and its square.
-#[derive(Drop)]
+#[derive(Clone, Copy)]
 pub struct Fixed {
     pub z_sqr_over_4: Complex,
     pub abs_z_sqr_over_4: f64,

@@ -16,7 +16,7 @@ pub struct Point {
 }
 
 // The order's signed fraction, its square, |cos(π fraction)|, and |1/4 - square|.
-#[derive(Drop)]
+#[derive(Clone, Copy)]
 pub struct Order {
     pub fraction: f64,
     pub square: f64,

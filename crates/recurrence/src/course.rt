@@ -14,7 +14,7 @@ pub struct Course {
 }
 
 // the climb after a turn, and whether it has all four rungs
-#[derive(Drop)]
+#[derive(Clone, Copy)]
 pub struct Turn {
     pub climb: Climb,
     pub whole: bool,

@@ -24,7 +24,7 @@ pub struct Climb {
 }
 
 // What one rung gives: the climb after it, its value off the scale, and whether the state moved.
-#[derive(Drop)]
+#[derive(Clone, Copy)]
 pub struct Rung {
     pub climb: Climb,
     pub entry: Complex,

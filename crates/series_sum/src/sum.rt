@@ -9,7 +9,7 @@ ghost use Rattle.series_sum.specs.shapes.Sum.{sum_rest};
 use complex::number::Complex;
 use machine::constants::Machine;
 
-#[derive(Drop)]
+#[derive(Clone, Copy)]
 pub struct Sum {
     pub value: Complex,
     pub terms: u32,

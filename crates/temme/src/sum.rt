@@ -18,7 +18,7 @@ pub struct Fixed {
 }
 
 // A sum under way, in the Rust's names, and how many terms were added.
-#[derive(Drop)]
+#[derive(Clone, Copy)]
 pub struct Terms {
     pub temme_coeff: Complex,
     pub neg_order_term: Complex,

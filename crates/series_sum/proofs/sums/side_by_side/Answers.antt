@@ -4,24 +4,7 @@ use mathlib.Core.Path.{◌≡◌, refl, sym, ◌∙◌}
 use Prim.Native.Nat.{◌-◌, ◌<◌}
 use native.Mathlib.Omega.{arith}
 use Rattle.series_sum.proofs.SumRun.{next-counts, rest-after, both_go}
-use borrow.Author.Tests.{not-false}
 use Rattle.series_sum.proofs.sums.side_by_side.Goals as goal
-
-abbrev one-turn :
-    (c : tie.After-next2 invariant-loop decreases-loop) → let a = c.before.before.before.before.before.before.before.before.before.args in
-    invariant-loop a.half-z-sq a.abs-half-z-sq a.t a.begun.higher a.begun.lower c.before.next.result c.next2.result
-one-turn c =
-    let a = c.before.next in
-    let b = c.next2 in
-    let d = c.before.before in
-    let l = d.before.before.before.before.loop in
-    let t = next-counts _ _ _ _ a.ensures in
-    let u = next-counts _ _ _ _ b.ensures in
-    let same : l.lower.terms ≡ l.higher.terms = l.invariant.1 in
-    let h : l.higher.terms < 19 = omega arith in
-    let k : l.lower.terms < 19 = omega arith in
-    let go = both_go _ _ l.higher l.lower (sym d.before.both-go-on.ensures ∙ not-false _ d.if2.false) in
-    (omega arith, omega arith, l.invariant.2 ∙ rest-after _ _ _ _ _ a.ensures h go.0, l.invariant.3 ∙ rest-after _ _ _ _ _ b.ensures k go.1)
 
 pub loop-higher-init : goal.loop-higher-init
 loop-higher-init c =
@@ -38,7 +21,17 @@ pub next-l-requires : goal.next-l-requires
 next-l-requires c = omega (arith, c.loop-higher.invariant.1)
 
 pub returns-then-not-both_go_on-2 : goal.returns-then-not-both_go_on-2
-returns-then-not-both_go_on-2 c = one-turn c
+returns-then-not-both_go_on-2 c =
+    let a = c.next-h in
+    let b = c.next-l in
+    let l = c.loop-higher in
+    let t = next-counts _ _ _ _ a.ensures in
+    let u = next-counts _ _ _ _ b.ensures in
+    let same : l.lower.terms ≡ l.higher.terms = l.invariant.1 in
+    let h : l.higher.terms < 19 = omega arith in
+    let k : l.lower.terms < 19 = omega arith in
+    let go = both_go _ _ l.higher l.lower (sym c.both_go_on.ensures ∙ c.if-not-both_go_on.false) in
+    (omega arith, omega arith, l.invariant.2 ∙ rest-after _ _ _ _ _ a.ensures h go.0, l.invariant.3 ∙ rest-after _ _ _ _ _ b.ensures k go.1)
 
 pub next-higher-requires : goal.next-higher-requires
 next-higher-requires c =
@@ -59,22 +52,27 @@ loop-higher-smaller c =
 
 pub loop-higher-preserved : goal.loop-higher-preserved
 loop-higher-preserved c =
-    let b = c in
-    let d = b in
-    let i = one-turn d in
-    let a = d.next-h in
+    let w = c.loop-higher in
+    let a = c.next-h in
+    let b = c.next-l in
     let n = c.next-higher in
     let h = a.result in
-    let l = d.next-l.result in
-    let w = d in
-    let t = next-counts _ _ w.loop-higher.higher _ a.ensures in
+    let l = b.result in
+    let t = next-counts _ _ w.higher _ a.ensures in
+    let u = next-counts _ _ _ _ b.ensures in
     let p = next-counts _ _ _ _ n.ensures in
     let q = next-counts _ _ _ _ c.next-lower.ensures in
-    let same : l.terms ≡ h.terms = i.1 in
-    let m : h.terms < 19 = omega (arith, w.loop-higher-test.true) in
+    let first : w.lower.terms ≡ w.higher.terms = w.invariant.1 in
+    let few : w.higher.terms < 19 = omega arith in
+    let few' : w.lower.terms < 19 = omega arith in
+    let on = both_go _ _ w.higher w.lower (sym c.both_go_on.ensures ∙ c.if-not-both_go_on.false) in
+    let higher = w.invariant.2 ∙ rest-after _ _ _ _ _ a.ensures few on.0 in
+    let lower = w.invariant.3 ∙ rest-after _ _ _ _ _ b.ensures few' on.1 in
+    let same : l.terms ≡ h.terms = omega arith in
+    let m : h.terms < 19 = omega (arith, c.loop-higher-test.true) in
     let k : l.terms < 19 = omega arith in
-    let go = both_go _ _ h l (sym b.both_go_on-in-loop-higher.ensures ∙ not-false _ b.if-not-both_go_on-2.false) in
-    (omega arith, omega arith, i.2 ∙ rest-after _ _ _ _ _ n.ensures m go.0, i.3 ∙ rest-after _ _ _ _ _ c.next-lower.ensures k go.1)
+    let go = both_go _ _ h l (sym c.both_go_on-in-loop-higher.ensures ∙ c.if-not-both_go_on-2.false) in
+    (omega arith, omega arith, higher ∙ rest-after _ _ _ _ _ n.ensures m go.0, lower ∙ rest-after _ _ _ _ _ c.next-lower.ensures k go.1)
 
 pub returns : goal.returns
 returns c = c.loop-higher.invariant

@@ -23,7 +23,7 @@ const A7: f64 = -0.1428469035713278;
 const GRID: f64 = 70368744177664.0;
 
 // The point's magnitudes by size: the angle between the longer side and the point's radius is at most π / 4.
-#[derive(Drop)]
+#[derive(Clone, Copy)]
 pub struct Triangle {
     pub long: f64,
     pub short: f64,

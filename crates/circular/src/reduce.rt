@@ -6,7 +6,7 @@ ghost use Rattle.circular.specs.Reduce.{quarters_of, reduce_of, leading, halves_
 
 use machine::bits::{of_pattern, pattern};
 
-#[derive(Drop)]
+#[derive(Clone, Copy)]
 pub struct Reduced {
     pub hi: f64,
     pub lo: f64,

@@ -4,7 +4,7 @@ ghost use Rattle.std.specs.Prelude.{◌≡◌};
 ghost use Rattle.complex.specs.Arithmetic.{zero_pair, plus_of, minus_of, opposite_of, conjugate_of, product_of, quotient_of};
 ghost use Rattle.complex.specs.Arithmetic.{times_real, over_real, plus_real, minus_real, real_over, norm_square_of};
 
-#[derive(Drop)]
+#[derive(Clone, Copy)]
 pub struct Complex {
     pub re: f64,
     pub im: f64,

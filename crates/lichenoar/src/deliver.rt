@@ -8,8 +8,9 @@ ghost use Rattle.lichenoar.specs.Turn.{AfterBytes};
 
 use crate::lines::advance;
 use crate::turn::{Turn, tally};
-use libc::STDOUT_FILENO;
 use splitting::state::State;
+
+const STDOUT_FILENO: i32 = 1;
 
 // The next byte to take, what is held then, how many bytes of answers there were, and how many of them the writer took.
 #[derive(Drop)]

@@ -8,9 +8,9 @@ ghost use Rattle.lichenoar.specs.Turn.{AtEnd, Taken, OneRead, Served};
 
 use crate::deliver::consume;
 use crate::turn::Turn;
-use libc::STDIN_FILENO;
 use splitting::cut::NEWLINE;
 use splitting::state::{State, is_over};
+use std::io::{Read, Stdin};
 
 // The last line may lack its newline: it is answered as if it had one.
 fn finish(line: &mut [u8], held: usize, out: &mut [u8], sent: u64) -> Turn
@@ -63,17 +63,25 @@ fn take_read(
     consume(&input[0..n], line, held, out, sent)
 }
 
-fn serve_read(line: &mut [u8], held: usize, out: &mut [u8], sent: u64) -> Turn
+// What a read reports: how many bytes it put at the buffer's start, or less than 0 where it failed.
+fn read_some(stdin: &mut Stdin, input: &mut [u8; 65536]) -> isize {
+    match stdin.read(input) {
+        Ok(n) => n as isize,
+        Err(_) => -1,
+    }
+}
+
+fn serve_read(stdin: &mut Stdin, line: &mut [u8], held: usize, out: &mut [u8], sent: u64) -> Turn
     requires { (length line.old ≡ most_held) × (held ≤ most_held) × (most_room ≤ length out.old) }
     ensures { OneRead (take held line.old) sent line.new result }
 {
     let mut input = io::large_buffer();
-    let got = libc::read(STDIN_FILENO, &mut input);
+    let got = read_some(stdin, &mut input);
     take_read(got, &input, line, held, out, sent)
 }
 
 // A proved loop has to end, and nothing says that an input does: the turns are counted down from a number that no run uses up.
-pub fn serve(line: &mut [u8], out: &mut [u8]) -> Turn
+pub fn serve(stdin: &mut Stdin, line: &mut [u8], out: &mut [u8]) -> Turn
     requires { (length line.old ≡ most_held) × (most_room ≤ length out.old) }
     ensures { Served result }
 {
@@ -81,7 +89,7 @@ pub fn serve(line: &mut [u8], out: &mut [u8]) -> Turn
     let mut sent = 0;
     let mut turns = u64::MAX;
     while turns > 0 {
-        let next = serve_read(line, held, out, sent);
+        let next = serve_read(stdin, line, held, out, sent);
         let state = next.state;
         if is_over(state) {
             return next;

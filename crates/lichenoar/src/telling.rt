@@ -3,9 +3,10 @@
 ghost use Rattle.std.specs.Prelude.{◌≡◌};
 ghost use Rattle.lichenoar.specs.Turn.{status_of};
 
-use libc::STDERR_FILENO;
 use splitting::cut::NEWLINE;
 use splitting::state::State;
+
+const STDERR_FILENO: i32 = 2;
 
 const STATUS_FILENO: i32 = 3;
 

@@ -1,5 +1,7 @@
 // The morning program: answer lines on standard input, one page over them on standard output, a part a line. docs/SCOPE.md, The page.
 // It splits lines and copies bytes: what a line counts for is crate page's.
+#![tactic(auto)]
+
 mod ahead;
 mod rows;
 mod serve;
@@ -10,9 +12,10 @@ mod turn;
 use serve::serve;
 use telling::tell;
 
-fn main() {
+fn main(rt: HostRuntime) {
+    let mut stdin = rt.stdin();
     let mut line = [0u8; 16403];
     let mut page = [0u64; 58];
-    let last = serve(&mut line, &mut page);
+    let last = serve(&mut stdin, &mut line, &mut page);
     tell(last, &page);
 }

@@ -9,9 +9,9 @@ ghost use Rattle.morning.specs.Turn.{most_held, Settled, Passed, PassedTo, AtEnd
 use crate::ahead::digits_ahead;
 use crate::tally::{tally, tally_digits};
 use crate::turn::{Progress, Turn};
-use libc::STDIN_FILENO;
 use splitting::cut::{Piece, take_line};
 use splitting::state::{State, is_over};
+use std::io::{Read, Stdin};
 
 // A line that has come to its end is counted; of any other the held bytes wait.
 fn settle(piece: Piece, line: &[u8], page: &mut [u64; 58], refused: u64) -> Progress
@@ -142,18 +142,26 @@ fn take_read(got: isize, input: &[u8], line: &mut [u8], page: &mut [u64; 58], tu
     consume(&input[0..n], line, turn.held, page, turn.refused)
 }
 
-fn serve_read(line: &mut [u8], page: &mut [u64; 58], turn: Turn) -> Turn
+// What a read reports: how many bytes it put at the buffer's start, or less than 0 where it failed.
+fn read_some(stdin: &mut Stdin, input: &mut [u8; 65536]) -> isize {
+    match stdin.read(input) {
+        Ok(n) => n as isize,
+        Err(_) => -1,
+    }
+}
+
+fn serve_read(stdin: &mut Stdin, line: &mut [u8], page: &mut [u64; 58], turn: Turn) -> Turn
     requires { (length line.old ≡ most_held) × (turn.held ≤ most_held) }
     ensures { OneRead (take turn.held line.old) page.old turn.refused line.new
         page.new result }
 {
     let mut input = io::large_buffer();
-    let got = libc::read(STDIN_FILENO, &mut input);
+    let got = read_some(stdin, &mut input);
     take_read(got, &input, line, page, turn)
 }
 
 // A proved loop has to end, and nothing says that an input does: the turns are counted down from a number that no run uses up.
-pub fn serve(line: &mut [u8], page: &mut [u64; 58]) -> Turn
+pub fn serve(stdin: &mut Stdin, line: &mut [u8], page: &mut [u64; 58]) -> Turn
     requires { (length line.old ≡ most_held) × (page.old ≡ empty_page) }
     ensures { Served page.new result }
 {
@@ -164,7 +172,7 @@ pub fn serve(line: &mut [u8], page: &mut [u64; 58]) -> Turn
     };
     let mut turns = u64::MAX;
     while turns > 0 {
-        last = serve_read(line, page, last);
+        last = serve_read(stdin, line, page, last);
         let state = last.state;
         if is_over(state) {
             return last;

@@ -8,9 +8,12 @@ ghost use Rattle.morning.specs.Rows.{page_text};
 
 use crate::rows::put_page;
 use crate::turn::Turn;
-use libc::{STDERR_FILENO, STDOUT_FILENO};
 use splitting::cut::NEWLINE;
 use splitting::state::{State, status};
+
+const STDOUT_FILENO: i32 = 1;
+
+const STDERR_FILENO: i32 = 2;
 
 const STATUS_FILENO: i32 = 3;
 

@@ -8,10 +8,13 @@ ghost use Rattle.sweep.specs.Turn.{most_room, AfterLine};
 
 use crate::text::refusal_text;
 use crate::turn::{Turn, ended_as};
-use libc::{STDERR_FILENO, STDOUT_FILENO};
 use splitting::count::count;
 use splitting::state::State;
 use sweeping::line::sweep_line;
+
+const STDOUT_FILENO: i32 = 1;
+
+const STDERR_FILENO: i32 = 2;
 
 // The one place where frames leave the program: how many bytes of them the writer took. The line is there for the demand.
 fn send(frames: &[u8], line: &[u8]) -> usize

@@ -7,9 +7,9 @@ ghost use Rattle.sweep.specs.Turn.{most_held, most_room, Settled, AfterBytes, At
 
 use crate::answer::answer;
 use crate::turn::{Turn, ended_as};
-use libc::STDIN_FILENO;
 use splitting::cut::{Piece, take_line};
 use splitting::state::{State, is_over};
+use std::io::{Read, Stdin};
 
 // A line that has come to its end is answered; of any other the held bytes wait.
 fn settle(piece: Piece, line: &[u8], out: &mut [u8], turn: Turn) -> Turn
@@ -80,17 +80,25 @@ fn take_read(got: isize, input: &[u8], line: &mut [u8], out: &mut [u8], turn: Tu
     consume(&input[0..n], line, out, turn)
 }
 
-fn serve_read(line: &mut [u8], out: &mut [u8], turn: Turn) -> Turn
+// What a read reports: how many bytes it put at the buffer's start, or less than 0 where it failed.
+fn read_some(stdin: &mut Stdin, input: &mut [u8; 65536]) -> isize {
+    match stdin.read(input) {
+        Ok(n) => n as isize,
+        Err(_) => -1,
+    }
+}
+
+fn serve_read(stdin: &mut Stdin, line: &mut [u8], out: &mut [u8], turn: Turn) -> Turn
     requires { (length line.old ≡ most_held) × (turn.held ≤ most_held) × (most_room ≤ length out.old) × (turn.state ≡ Going) }
     ensures { OneRead (take turn.held line.old) turn line.new result }
 {
     let mut input = io::large_buffer();
-    let got = libc::read(STDIN_FILENO, &mut input);
+    let got = read_some(stdin, &mut input);
     take_read(got, &input, line, out, turn)
 }
 
 // A proved loop has to end, and nothing says that an input does: the turns are counted down from a number that no run uses up.
-pub fn serve(line: &mut [u8], out: &mut [u8]) -> Turn
+pub fn serve(stdin: &mut Stdin, line: &mut [u8], out: &mut [u8]) -> Turn
     requires { (length line.old ≡ most_held) × (most_room ≤ length out.old) }
     ensures { Served result }
 {
@@ -103,7 +111,7 @@ pub fn serve(line: &mut [u8], out: &mut [u8]) -> Turn
     };
     let mut turns = u64::MAX;
     while turns > 0 {
-        last = serve_read(line, out, last);
+        last = serve_read(stdin, line, out, last);
         let state = last.state;
         if is_over(state) {
             return last;

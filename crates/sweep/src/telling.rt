@@ -1,8 +1,9 @@
 // How the program ended, told: one line on standard error where something was lost, and the status, one digit and a newline, on descriptor 3
 // where that is open. A program of this language ends with status 0 always; whoever starts it turns the digit into a status.
-use libc::STDERR_FILENO;
 use splitting::cut::NEWLINE;
 use splitting::state::{State, status};
+
+const STDERR_FILENO: i32 = 2;
 
 const STATUS_FILENO: i32 = 3;
 

@@ -1,2 +1,4 @@
 // Text built in a lent buffer, piece behind piece, so that one write tells it: bytes, and numbers in decimal. What a text says is not known here.
+#![tactic(auto)]
+
 pub mod pieces;

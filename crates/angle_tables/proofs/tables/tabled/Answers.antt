@@ -261,4 +261,4 @@ returns-in-63 c = rw c.in-63.is
 
 pub returns-in_default : goal.returns-in_default
 unfolding tabled_of atan_high atan_low
-returns-in_default c = rw (last 64 c.args.j c.requires c.in_default-own.rest)
+returns-in_default c = rw (last 64 c.args.j c.requires c.in_default.in_default-own.rest)

@@ -710,4 +710,4 @@ returns-in-175 c = rw c.in-175.is
 
 pub returns-in_default : goal.returns-in_default
 unfolding coarse_high coarse_low coarse_power
-returns-in_default c = rw (last 176 c.args.i c.requires c.in_default-own.rest)
+returns-in_default c = rw (last 176 c.args.i c.requires c.in_default.in_default-own.rest)

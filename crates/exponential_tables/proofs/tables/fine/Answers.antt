@@ -1026,4 +1026,4 @@ returns-in-254 c = rw c.in-254.is
 
 pub returns-in_default : goal.returns-in_default
 unfolding fine_high fine_low fine_power
-returns-in_default c = rw (last 255 c.args.j c.requires c.in_default-own.rest)
+returns-in_default c = rw (last 255 c.args.j c.requires c.in_default.in_default-own.rest)

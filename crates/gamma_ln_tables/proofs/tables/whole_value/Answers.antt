@@ -405,4 +405,4 @@ returns-in-99 c = rw c.in-99.is
 
 pub returns-in_default : goal.returns-in_default
 unfolding whole_values
-returns-in_default c = rw (last 100 c.args.j c.requires c.in_default-own.rest)
+returns-in_default c = rw (last 100 c.args.j c.requires c.in_default.in_default-own.rest)

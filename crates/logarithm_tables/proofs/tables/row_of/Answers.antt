@@ -514,4 +514,4 @@ returns-in-126 c = rw c.in-126.is
 
 pub returns-in_default : goal.returns-in_default
 unfolding row_of reciprocals excesses logarithms_high logarithms_low
-returns-in_default c = rw (last 127 c.args.j c.requires c.in_default-own.rest)
+returns-in_default c = rw (last 127 c.args.j c.requires c.in_default.in_default-own.rest)

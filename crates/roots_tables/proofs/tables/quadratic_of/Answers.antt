@@ -514,4 +514,4 @@ returns-in-126 c = rw c.in-126.is (refl, refl, refl)
 
 pub returns-in_default : goal.returns-in_default
 unfolding constants slopes bends
-returns-in_default c = rw (last 127 c.args.i c.requires c.in_default-own.rest) (refl, refl, refl)
+returns-in_default c = rw (last 127 c.args.i c.requires c.in_default.in_default-own.rest) (refl, refl, refl)

@@ -101,10 +101,10 @@ loop-at-preserved c =
     let l = i in
     let a = l.args in
     let v = l.loop-at.invariant in
-    byte-kept a.chunk.now a.from (length a.line-1.now) (take a.held a.line-1.now) l.loop-at.line-1 l.loop-at.at l.loop-at.kept v i.loop-at-test.true _ _ i.if-b-eq-NEWLINE.false
-    (k.keep-kept.auto.1.0 ∙ v.same)
+    byte-kept a.chunk.now a.from (length a.line.now) (take a.held a.line.now) l.loop-at.line l.loop-at.at l.loop-at.kept v i.loop-at-test.true _ _ i.if-b-eq-NEWLINE.false
+    (k.keep-kept.auto.line ∙ v.same)
     (omega (arith, k.keep-kept.ensures.0, v.same))
-    (k.keep-kept.ensures.1 ∙ ap (λ (m : ℕ). take m (take l.loop-at.kept l.loop-at.line-1 ++ (get_or a.chunk.now l.loop-at.at 0 ∷ []))) v.same)
+    (k.keep-kept.ensures.1 ∙ ap (λ (m : ℕ). take m (take l.loop-at.kept l.loop-at.line ++ (get_or a.chunk.now l.loop-at.at 0 ∷ []))) v.same)
 
 pub shape_of-line : goal.shape_of-line
 shape_of-line c = c.loop-at.invariant.same

@@ -8,7 +8,7 @@ returns-then-applies c = cc
 
 pub returns-in-Refused : goal.returns-in-Refused
 unfolding refused_if
-returns-in-Refused c = rw c.self-1.given.1
+returns-in-Refused c = rw c.in-Refused.is
 
 pub returns-else-applies : goal.returns-else-applies
 unfolding refused_if

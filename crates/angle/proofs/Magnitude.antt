@@ -7,7 +7,7 @@ use native.Mathlib.Omega.{arith}
 use mathlib.Core.Bool.{Bool, true, false, cond}
 use lib.Dec.{T, lit<}
 use lib.Pow.{pow_mono, pow-lt}
-use lib.Ieee.{Float, nan, inf, fin, binary64, low, size, neg, add, of_bits, to_bits, fits, le}
+use lib.Ieee.{Float, nan, inf, fin, binary64, size, neg, add, of_bits, to_bits, fits, le}
 use lib.Ieee.Digits.{size-lt, size_reaches}
 use lib.Ieee.Exact.{HasValue}
 use lib.Ieee.Scale.{finite}

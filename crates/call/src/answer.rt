@@ -5,7 +5,7 @@ ghost use Rattle.call.specs.Answer.{signed_of, answered_of, refused_of};
 
 use refusal::refusal::Refusal;
 
-#[derive(Drop)]
+#[derive(Clone, Copy)]
 pub struct Answer {
     pub number: u32,
     pub zeros: i32,

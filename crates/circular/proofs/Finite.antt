@@ -132,8 +132,8 @@ quarters-boxed a p = (
 )
 
 -- what has no minus sign is at least 0
-from_zero : (x : Float) → T (finite x) → sign x ≡ false → T (le nought x)
-from_zero x f s = le_of_values nought x 0 1 (num x) (den x) (lit< tt) (den_pos x) (refl, refl) (subst (λ (t : Bool). HasValue x t (num x) (den x)) s (own-fraction x f)) (none (num x) (den x))
+not-below-nought : (x : Float) → T (finite x) → sign x ≡ false → T (le nought x)
+not-below-nought x f s = le_of_values nought x 0 1 (num x) (den x) (lit< tt) (den_pos x) (refl, refl) (subst (λ (t : Bool). HasValue x t (num x) (den x)) s (own-fraction x f)) (none (num x) (den x))
   where
     none : (a c : ℕ) → 0 * c ≤ a * 1
     none a c = omega arith
@@ -147,7 +147,7 @@ module _ (limit y : Float) (b : ℕ) (L : T (finite limit)) (P : T (positive y))
       go true e =
           let r = rem-range binary64 a y b f s P B in
           (tt, L, r.0, le-trans-float (rem binary64 a y) (round binary64 false b 1) limit r.1 top)
-      go false e = (tt, L, from_zero a f s, not-lt→le limit a L f e)
+      go false e = (tt, L, not-below-nought a f s, not-lt→le limit a L f e)
 
 within-turns-in : (a : Float) → T (finite a) → sign a ≡ false → In A (within_turns a)
 unfolding within_turns
@@ -163,7 +163,7 @@ reduce-boxed a f s = go (lt a (of_bits binary64 0x3FE9000000000000)) refl
       (
         unfold of_bits in tt,
         unfold of_bits in tt,
-        le-trans-float (of_bits binary64 0xC170000000000000) nought a (unfold of_bits le in tt) (from_zero a f s),
+        le-trans-float (of_bits binary64 0xC170000000000000) nought a (unfold of_bits le in tt) (not-below-nought a f s),
         le-trans-float a (of_bits binary64 0x3FE9000000000000) (of_bits binary64 0x4170000000000000) (lt→le a (of_bits binary64 0x3FE9000000000000) (subst T (sym e) tt)) (unfold of_bits le in tt),
       ),
       (unfold of_bits in tt, unfold of_bits in tt, unfold of_bits le in tt, unfold of_bits le in tt),

@@ -26,7 +26,7 @@ use Rattle.sweeping.specs.Sweep.{line_length, swept_of, frames_of}
 use Rattle.sweeping.specs.Line.{requested_of, swept_by, frames_in, line_swept, line_bytes}
 use Rattle.sweeping.specs.ReadBack.{lines_up_to, AreValues, one_of, Taken, alone_with}
 use Rattle.sweeping.proofs.PointFacts.{first_alone, even-points}
-use Rattle.sweeping.proofs.NumberFacts.{NumberOfSweep, number-of-sweep, listed, frame_has}
+use Rattle.sweeping.proofs.NumberFacts.{NumberOfSweep, number-of-sweep, listed, frame-has}
 use Rattle.sweeping.proofs.SweepFacts.{accepted, accepted-needed, accepted-frames, sweep-needed, refused_none, offered-nothing}
 use Rattle.sweeping.proofs.ReadBack.{ReadBack, read_back}
 use Rattle.sweeping.proofs.OneFacts.{one_number, one_line, alone-swept, alone-frames}
@@ -96,7 +96,7 @@ of-sweep = record {
   no_other = λ q. (number-of-sweep q).no_other;
   c-number = number-of-sweep;
   steps = λ s. refl;
-  kinds = frame_has;
+  kinds = frame-has;
   counts = λ n. refl;
   finite = λ r. refl;
   signs = λ r. refl;

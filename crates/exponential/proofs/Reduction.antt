@@ -1,6 +1,6 @@
 -- The reduction of an x from -705 to 705: adding 1.5 * 2^47 rounds x to a multiple of 1/32, whose count from -708 on is from 96 to 45216. Assumes nothing.
 use mathlib.Core.Path.{◌≡◌, refl, subst}
-use Prim.Native.Nat.{◌-◌, ◌≤◌, ◌<◌}
+use Prim.Native.Nat.{◌≤◌}
 use native.Mathlib.Omega.{arith}
 use mathlib.Core.Bool.{false, not}
 use lib.Dec.{T, lit<}

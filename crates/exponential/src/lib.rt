@@ -1,4 +1,6 @@
 // The exponential function and the hyperbolic sine and cosine of every f64, each proved equal to its definition in specs/.
+#![tactic(auto)]
+
 pub mod cosh;
 pub mod exp;
 pub mod sinh;

@@ -14,7 +14,7 @@ use crate::layout::{
 use machine::bits::of_pattern;
 
 // What the line says, and how many pairs follow.
-#[derive(Drop)]
+#[derive(Clone, Copy)]
 pub struct Record {
     pub number: u32,
     pub zeros: i32,

@@ -1,2 +1,4 @@
 // The natural logarithm.
+#![tactic(auto)]
+
 pub mod ln;

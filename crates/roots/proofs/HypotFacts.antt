@@ -2,7 +2,7 @@
 use mathlib.Core.Path.{◌≡◌, refl, sym, ap, ◌∙◌, subst}
 use mathlib.Core.Bool.{Bool, true, false}
 use Prim.Native.Nat.{ℕ, zero, suc, ◌+◌, ◌-◌, ◌*◌, ◌^◌, ◌≤◌, ◌<◌}
-use native.Mathlib.Nat.{le_trans, le_of_eq, zero-lt-suc, zero-mul, zero-add, add-zero, mul-one, mul_assoc, mul_comm, mul_left_comm, mul_right_comm, mul-mul-mul_comm, add-mul, mul-pos, mul-le-mul, mul-le-mul_left, mul-le-mul_right, le-add_right}
+use native.Mathlib.Nat.{le_trans, le_of_eq, zero-lt-suc, zero-mul, zero-add, add-zero, mul-one, mul_assoc, mul_comm, mul_left_comm, add-mul, mul-pos, mul-le-mul_left}
 use lib.IntN.{ℤ}
 use lib.Dec.{T, lit<, lit≤}
 use lib.Pow.{pow_pos}

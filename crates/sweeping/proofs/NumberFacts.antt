@@ -101,6 +101,6 @@ by_tests false true i a b = refl
 by_tests false false true a b = refl
 by_tests false false false a b = refl
 
-pub frame_has : (r : Request) → frame_has r ≡ (not (ltb 1 r.scaling) && (eqb r.kind 1 || eqb r.kind 2))
+pub frame-has : (r : Request) → frame_has r ≡ (not (ltb 1 r.scaling) && (eqb r.kind 1 || eqb r.kind 2))
 unfolding frame_has asked_of fields_with
-frame_has r = by_tests (ltb 1 r.scaling) (eqb r.kind 1) (eqb r.kind 2) _ _
+frame-has r = by_tests (ltb 1 r.scaling) (eqb r.kind 1) (eqb r.kind 2) _ _

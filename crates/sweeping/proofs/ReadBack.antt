@@ -33,7 +33,7 @@ use Rattle.sweeping.specs.Points.{normalised_request, step_of, part_with, re_at,
 use Rattle.sweeping.specs.Checks.{steps_inside, count_inside, is_asked, frame_has, sweep_checks}
 use Rattle.sweeping.specs.Sweep.{verdict_for, frames_of}
 use Rattle.sweeping.specs.ReadBack.{asking_at, lines_up_to, fields_up_to, askings_up_to, AreValues}
-use Rattle.sweeping.proofs.NumberFacts.{frame_has}
+use Rattle.sweeping.proofs.NumberFacts.{frame-has}
 use Rattle.sweeping.proofs.SweepFacts.{admitted-frames}
 
 -- ---- a line of digits has no newline
@@ -49,7 +49,7 @@ digits-plain (c ∷ l) e = let p = both (is_digit c) (are_digits l) e in simp (n
 
 module _ (r : Request) (has : frame_has r ≡ true) (few : count_inside r.count ≡ true) (values : AreValues r) where
   tests : (not (ltb 1 r.scaling) ≡ true) × ((eqb r.kind 1 || eqb r.kind 2) ≡ true)
-  tests = both (not (ltb 1 r.scaling)) (eqb r.kind 1 || eqb r.kind 2) (sym (frame_has r) ∙ has)
+  tests = both (not (ltb 1 r.scaling)) (eqb r.kind 1 || eqb r.kind 2) (sym (frame-has r) ∙ has)
 
   small-if : (a b : Bool) → eqb r.kind 1 ≡ a → eqb r.kind 2 ≡ b → (a || b) ≡ true → r.kind < 256
   small-if true b e f g = let z = eqb-true r.kind 1 e in omega (arith, z)

@@ -22,7 +22,7 @@ const STEPS_AT: usize = 32;
 
 const REST_LENGTH: usize = 36;
 
-#[derive(Drop)]
+#[derive(Clone, Copy)]
 pub struct Request {
     pub kind: u64,
     pub scaling: u64,

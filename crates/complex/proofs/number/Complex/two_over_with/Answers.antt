@@ -1,0 +1,7 @@
+-- `Complex::two_over_with` meets its contract. Assumes nothing.
+use Rattle.complex.specs.Functions.{two_over_with}
+use Rattle.complex.proofs.number.Complex.two_over_with.Goals as goal
+
+pub returns : goal.returns
+unfolding two_over_with
+returns c = simp (c.times_real.ensures, c.plus.ensures, c.times_real-s.ensures, c.conjugate.ensures)

@@ -1,0 +1,30 @@
+-- `page::saying::magnitude` meets its contract: of a negative count one more than its distance to -1. Assumes nothing.
+use mathlib.Core.Path.{sym, ap, ◌∙◌, subst}
+use Prim.Native.Nat.{◌+◌}
+use native.Mathlib.Omega.{arith}
+use native.Mathlib.Numerals.{add-one}
+use lib.Dec.{T}
+use lib.IntN.{ℤ, nat_abs}
+use lib.Signed.{non_neg}
+use mir.Syntax.{w32, w64}
+use mir.Val.{Fits, SFits}
+use Rattle.frame.proofs.SignFacts.{low, small, difference, shown, is, little, shown-not, is-not}
+use Rattle.page.proofs.saying.magnitude.Goals as goal
+
+pub overflow_sub-result : goal.overflow_sub-result
+overflow_sub-result c = let f = c.ranges.zeros in subst (SFits w32) (sym (difference _ f c.if-zeros-lt0.true)) (record { sfits = small _ f c.if-zeros-lt0.true })
+
+pub overflow_cast-result : goal.overflow_cast-result
+overflow_cast-result c = let f = c.ranges.zeros in let s = small _ f c.if-zeros-lt0.true in subst (λ (k : ℤ). T (non_neg k) × Fits w64 (nat_abs k)) (sym (shown _ f c.if-zeros-lt0.true)) (tt, record { fits = omega arith })
+
+pub overflow_add-result : goal.overflow_add-result
+overflow_add-result c = let f = c.ranges.zeros in let s = small _ f c.if-zeros-lt0.true in subst (λ (k : ℤ). Fits w64 (nat_abs k + 1)) (sym (shown _ f c.if-zeros-lt0.true)) (record { fits = omega arith })
+
+pub returns-then-zeros-lt0 : goal.returns-then-zeros-lt0
+returns-then-zeros-lt0 c = let f = c.ranges.zeros in ap (λ (k : ℤ). nat_abs k + 1) (shown _ f c.if-zeros-lt0.true) ∙ add-one (low c.args.zeros) ∙ sym (ap nat_abs (is _ f c.if-zeros-lt0.true))
+
+pub overflow_cast-result-2 : goal.overflow_cast-result-2
+overflow_cast-result-2 c = let f = c.ranges.zeros in let s = little _ f c.if-zeros-lt0.false in subst (λ (k : ℤ). T (non_neg k) × Fits w64 (nat_abs k)) (sym (shown-not _ f c.if-zeros-lt0.false)) (tt, record { fits = omega arith })
+
+pub returns : goal.returns
+returns c = let f = c.ranges.zeros in ap nat_abs (shown-not _ f c.if-zeros-lt0.false) ∙ sym (ap nat_abs (is-not _ f c.if-zeros-lt0.false))

@@ -1,0 +1,68 @@
+-- `sweeping::points::write_frames` meets its contract: one frame behind the other, from the start on. Assumes nothing.
+use mathlib.Core.Path.{◌≡◌, ap, ◌∙◌}
+use Prim.Native.Nat.{ℕ}
+use native.Mathlib.Omega.{arith}
+use Rattle.frame.specs.Over.{over}
+use Rattle.sweeping.specs.Points.{frames_up_to}
+use Rattle.sweeping.proofs.PointFacts.{frames-none, frames-room, frames-next, fields-at, seam-over}
+use Rattle.sweeping.proofs.points.write_frames.Goals as goal
+
+pub loop-j-init : goal.loop-j-init
+loop-j-init c = record { re = c.step-step_re.ensures; im = c.step-step_im.ensures; frames = frames-none _ _ }
+
+pub write_asking-requires : goal.write_asking-requires
+write_asking-requires c =
+    let l = c in
+    let s = l in
+    omega (arith, frames-room s.args.r s.args.out.now l.loop-j.out l.loop-j.at l.loop-j.j s.requires.2 c.loop-j-test.true l.loop-j.invariant.frames)
+
+pub overflow_add-out : goal.overflow_add-out
+overflow_add-out c =
+    let l = c in
+    let s = l in
+    omega (arith, frames-room s.args.r s.args.out.now l.loop-j.out l.loop-j.at l.loop-j.j s.requires.2 c.loop-j-test.true l.loop-j.invariant.frames, s.well_formed)
+
+pub bounds-out-at : goal.bounds-out-at
+bounds-out-at c =
+    let l = c in
+    let s = l in
+    omega (arith, frames-room s.args.r s.args.out.now l.loop-j.out l.loop-j.at l.loop-j.j s.requires.2 c.loop-j-test.true l.loop-j.invariant.frames, c.write_asking.auto.out)
+
+pub overflow_add-at : goal.overflow_add-at
+overflow_add-at c =
+    let l = c in
+    let s = l in
+    omega (arith, frames-room s.args.r s.args.out.now l.loop-j.out l.loop-j.at l.loop-j.j s.requires.2 c.loop-j-test.true l.loop-j.invariant.frames, s.well_formed)
+
+pub overflow_add-j : goal.overflow_add-j
+overflow_add-j c = omega arith
+
+pub loop-j-smaller : goal.loop-j-smaller
+loop-j-smaller c = omega arith
+
+pub loop-j-preserved : goal.loop-j-preserved
+loop-j-preserved c =
+    let w = c in
+    let f = w in
+    let t = f in
+    let l = t in
+    let s = l in
+    let v = l.loop-j.invariant in
+    record {
+      re = v.re;
+      im = v.im;
+      frames =
+          frames-next s.args.r s.args.out.now l.loop-j.out _ l.loop-j.at l.loop-j.j f.fields_with.result s.requires.2 t.loop-j-test.true v.frames
+          (fields-at s.args.r l.loop-j.j _ _ _ _ _ v.re v.im f.part-re.ensures f.part-im.ensures f.fields_with.ensures)
+          w.write_asking.ensures;
+    }
+
+pub shape_of-out : goal.shape_of-out
+shape_of-out c = c.loop-j.invariant.frames.seam.same
+
+pub returns : goal.returns
+returns c =
+    let l = c.loop-j in
+    let a = c.args in
+    let e : l.j ≡ a.r.steps = omega (arith, l.invariant.frames.below) in
+    seam-over a.out.now (frames_up_to a.r l.j) l.out l.at l.invariant.frames.seam ∙ ap (λ (k : ℕ). over 0 (frames_up_to a.r k) a.out.now) e

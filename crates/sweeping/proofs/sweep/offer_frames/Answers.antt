@@ -1,0 +1,17 @@
+-- `sweeping::sweep::offer_frames` meets its contract: by the room, which is compared with the length of all frames. Assumes nothing.
+use mathlib.Core.Path.{refl, sym, ◌∙◌}
+use native.Mathlib.Omega.{arith}
+use Rattle.frame.proofs.OverFacts.{offered-room, offered-none}
+use Rattle.sweeping.proofs.PointFacts.{frames-length}
+use Rattle.sweeping.proofs.sweep.offer_frames.Goals as goal
+
+pub returns-then-out-needed : goal.returns-then-out-needed
+returns-then-out-needed c =
+    let a = c.args in
+    (refl, sym (offered-none _ a.out.now (omega (arith, frames-length a.r a.r.steps))))
+
+pub returns : goal.returns
+returns c =
+    let a = c.args in
+    let w = c in
+    (refl, w.write_frames.ensures ∙ sym (offered-room _ a.out.now (omega (arith, frames-length a.r a.r.steps))))

@@ -30,7 +30,7 @@ pub struct Triangle {
 }
 
 // A tangent, and the same as leading digits and the rest.
-#[derive(Drop)]
+#[derive(Clone, Copy)]
 pub struct Tangent {
     pub value: f64,
     pub high: f64,
@@ -38,7 +38,7 @@ pub struct Tangent {
 }
 
 // A quotient's nearest 64th: its index in the tables and its value.
-#[derive(Drop)]
+#[derive(Clone, Copy)]
 pub struct Step {
     pub index: usize,
     pub value: f64,

@@ -6,7 +6,7 @@ ghost use Rattle.bessel.specs.Arguments.{arguments_of};
 use call::limits::normalised;
 use complex::number::Complex;
 
-#[derive(Drop)]
+#[derive(Clone, Copy)]
 pub struct Arguments {
     pub order: f64,
     pub z: Complex,

@@ -7,7 +7,7 @@ ghost use Rattle.call.specs.Checks.{refused_if, verdict_from, length_checks, fin
 use crate::limits::{are_finite, length_inside, order_inside, sign_inside, size_inside};
 use refusal::refusal::Refusal;
 
-#[derive(Drop)]
+#[derive(Clone, Copy)]
 pub enum Verdict {
     Admitted,
     Refused(Refusal),

@@ -1,5 +1,5 @@
 // What is asked for: K or I.
-#[derive(Drop)]
+#[derive(Clone, Copy)]
 pub enum Kind {
     K,
     I,

@@ -8,7 +8,7 @@ use crate::reduce::reduce;
 use machine::bits::{of_pattern, pattern};
 use machine::constants::not_a_number;
 
-#[derive(Drop)]
+#[derive(Clone, Copy)]
 pub struct SinCos {
     pub sin: f64,
     pub cos: f64,

@@ -13,7 +13,7 @@ use logarithm::ln;
 use roots::hypot::hypot;
 
 // Three functions of one number, which share the sine and the cosine of its imaginary part.
-#[derive(Drop)]
+#[derive(Clone, Copy)]
 pub struct ExpCoshSinh {
     pub exp: Complex,
     pub cosh: Complex,

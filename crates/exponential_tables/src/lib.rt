@@ -4,7 +4,7 @@
 pub mod tables;
 
 // A value as a leading part and what is left of it.
-#[derive(Drop)]
+#[derive(Clone, Copy)]
 pub struct Pair {
     pub hi: f64,
     pub lo: f64,

@@ -16,7 +16,7 @@ use call::kind::Kind;
 use machine::bits::of_pattern;
 
 // The fields as they stand, each a number.
-#[derive(Drop)]
+#[derive(Clone, Copy)]
 pub struct Fields {
     pub kind: u64,
     pub scaling: u64,
@@ -26,13 +26,13 @@ pub struct Fields {
     pub im: u64,
 }
 
-#[derive(Drop)]
+#[derive(Clone, Copy)]
 pub enum Framed {
     Frame(Fields),
     NoFrame,
 }
 
-#[derive(Drop)]
+#[derive(Clone, Copy)]
 pub struct Asking {
     pub kind: Kind,
     pub scaled: bool,
@@ -42,7 +42,7 @@ pub struct Asking {
     pub im: f64,
 }
 
-#[derive(Drop)]
+#[derive(Clone, Copy)]
 pub enum Parsed {
     Asked(Asking),
     Malformed,

@@ -24,7 +24,7 @@ pub struct Record {
     pub pairs: usize,
 }
 
-#[derive(Drop)]
+#[derive(Clone, Copy)]
 pub enum Reading {
     Readable(Record),
     Unreadable,

@@ -4,7 +4,7 @@ ghost use Rattle.std.specs.Prelude.{◌≡◌};
 ghost use Rattle.gamma_ln.specs.Factors.{factors_of};
 
 // A product under way, and how many factors are in it.
-#[derive(Drop)]
+#[derive(Clone, Copy)]
 pub struct Multiplied {
     pub product: f64,
     pub count: u32,

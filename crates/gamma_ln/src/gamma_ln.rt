@@ -18,7 +18,7 @@ use machine::constants::{Machine, not_a_number};
 use rounding::round::round;
 
 // The value, by how many factors the argument was shifted, and how many terms of the series were summed.
-#[derive(Drop)]
+#[derive(Clone, Copy)]
 pub struct Computed {
     pub value: f64,
     pub factors: u32,
@@ -107,7 +107,7 @@ fn rounded(x: f64) -> f64
 
 // Where the series is summed, and by how much the argument is raised to get there: to 7 or near it, from 7 on not at all. Rounded to the nearest
 // whole number, and not truncated, the argument leaves 6.5 to 7.5 for the series. One test gives both, so that from 7 on nothing stands before it.
-#[derive(Drop)]
+#[derive(Clone, Copy)]
 pub struct Place {
     pub argument: f64,
     pub shift: f64,

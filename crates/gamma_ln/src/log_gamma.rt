@@ -10,7 +10,7 @@ use call::checks::Verdict;
 use machine::finite::is_finite;
 use refusal::refusal::Refusal;
 
-#[derive(Drop)]
+#[derive(Clone, Copy)]
 pub enum LogGamma {
     Value(f64),
     Refused(Refusal),

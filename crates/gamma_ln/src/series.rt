@@ -7,7 +7,7 @@ use crate::coefficients::COEFFICIENTS;
 use machine::constants::Machine;
 
 // A sum under way: the power of 1/z of its last term, the sum, and how many terms are in it.
-#[derive(Drop)]
+#[derive(Clone, Copy)]
 pub struct Terms {
     pub power: f64,
     pub sum: f64,

@@ -4,7 +4,7 @@
 ghost use Rattle.std.specs.Prelude.{◌≡◌, ◌<◌};
 ghost use Rattle.logarithm_tables.specs.Tables.{row_of};
 
-#[derive(Drop)]
+#[derive(Clone, Copy)]
 pub struct Row {
     // c, the i/256 nearest to 1 / (1 + j/128)
     pub reciprocal: f64,

@@ -3,7 +3,7 @@
 ghost use Rattle.std.specs.Prelude.{◌≡◌};
 ghost use Rattle.machine.specs.Constants.{machine_constants, not_a_number};
 
-#[derive(Drop)]
+#[derive(Clone, Copy)]
 pub struct Machine {
     pub tolerance: f64,
     pub inverse_tolerance: f64,

@@ -8,7 +8,7 @@ ghost use Rattle.miller.specs.Backward.{real_step, real_steps, complex_next, com
 use complex::number::Complex;
 use machine::constants::Machine;
 
-#[derive(Drop)]
+#[derive(Clone, Copy)]
 pub struct RealSteps {
     pub older: f64,
     pub newer: f64,
@@ -50,7 +50,7 @@ pub fn real_steps(x: f64, distance: f64, start: u32) -> RealSteps
     s
 }
 
-#[derive(Drop)]
+#[derive(Clone, Copy)]
 pub struct ComplexSteps {
     pub older: Complex,
     pub newer: Complex,

@@ -1,5 +1,7 @@
 // K's seeds by Miller's method, for |z| above 2: how many backward steps to begin with, the steps, and the two seeds that they give.
 // From src/amos/right_half_plane.rs, determine_miller_starting_k and compute_large_z_miller_seeds (ZBKNU).
+#![tactic(auto)]
+
 pub mod backward;
 pub mod point;
 pub mod search;

@@ -7,7 +7,7 @@ use complex::number::Complex;
 use roots::sqrt::sqrt;
 
 // An argument, its modulus, which is its real part on the real path, the root of that, and the angle, which the real path does not ask for.
-#[derive(Drop)]
+#[derive(Clone, Copy)]
 pub struct Point {
     pub z: Complex,
     pub modulus: f64,
@@ -16,7 +16,7 @@ pub struct Point {
 }
 
 // The order's signed fraction, its square, |cos(π fraction)|, and |1/4 - square|.
-#[derive(Drop)]
+#[derive(Clone, Copy)]
 pub struct Order {
     pub fraction: f64,
     pub square: f64,

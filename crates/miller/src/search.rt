@@ -13,7 +13,7 @@ use logarithm::ln::ln;
 use machine::constants::Machine;
 use roots::sqrt::sqrt;
 
-#[derive(Drop)]
+#[derive(Clone, Copy)]
 pub enum Start {
     At(u32),
     // no trial passed, or what was found is no start: not finite, not above -1, or beyond 256 without its fraction

@@ -12,14 +12,14 @@ use complex::number::Complex;
 use machine::magnitude::magnitude;
 use refusal::refusal::Refusal;
 
-#[derive(Drop)]
+#[derive(Clone, Copy)]
 pub struct Miller {
     pub first: Complex,
     pub second: Complex,
     pub backward: u32,
 }
 
-#[derive(Drop)]
+#[derive(Clone, Copy)]
 pub enum MillerSeeds {
     Pair(Miller),
     Refused(Refusal),

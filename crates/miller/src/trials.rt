@@ -7,7 +7,7 @@ use crate::search::Start;
 use machine::magnitude::magnitude;
 
 // The last two values of the recurrence.
-#[derive(Drop)]
+#[derive(Clone, Copy)]
 pub struct Trial {
     pub older: f64,
     pub newer: f64,

@@ -19,7 +19,7 @@ use series_sum::sum::Sum;
 use series_sum::sums::two_sums;
 
 // The states after the highest order and after the next.
-#[derive(Drop)]
+#[derive(Clone, Copy)]
 pub struct Pair {
     pub higher: Descent,
     pub lower: Descent,

@@ -13,7 +13,7 @@ use series_step::step::step;
 
 // How many orders were set to zero, whether and where the visit stopped, the terms of its longest sum, and its steps of recurrence.
 // Finished are the entries from the place up; it is 0 where the visit did not stop.
-#[derive(Drop)]
+#[derive(Clone, Copy)]
 pub struct Visit {
     pub zeros: u32,
     pub stopped: bool,
@@ -23,7 +23,7 @@ pub struct Visit {
 }
 
 // The state where the visit ends, and how many orders it left.
-#[derive(Drop)]
+#[derive(Clone, Copy)]
 pub struct Standing {
     pub left: usize,
     pub state: Descent,

@@ -6,7 +6,7 @@ use crate::state::{Climb, OverflowState, reached};
 use complex::number::Complex;
 
 // 2/z, the base order, and the limit of the state
-#[derive(Drop)]
+#[derive(Clone, Copy)]
 pub struct Course {
     pub two_over_z: Complex,
     pub base_order: f64,
@@ -14,7 +14,7 @@ pub struct Course {
 }
 
 // the climb after a turn, and whether it has all four rungs
-#[derive(Drop)]
+#[derive(Clone, Copy)]
 pub struct Turn {
     pub climb: Climb,
     pub whole: bool,

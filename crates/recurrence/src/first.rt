@@ -9,7 +9,7 @@ use crate::trial::{Trial, first_trial};
 use complex::number::{Complex, zero_pair};
 
 // How many orders are zero, the two after them, raised by 2^52 (zero where there are none), and the rungs climbed.
-#[derive(Drop)]
+#[derive(Clone, Copy)]
 pub struct FirstOrders {
     pub zeros: u32,
     pub first: Complex,

@@ -11,7 +11,7 @@ use complex::number::{Complex, zero_pair};
 use machine::magnitude::outside;
 
 // Whether the state stays at a value, and the value, which is zero where it does not.
-#[derive(Drop)]
+#[derive(Clone, Copy)]
 pub struct Held {
     pub kept: bool,
     pub value: Complex,

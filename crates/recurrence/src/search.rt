@@ -11,7 +11,7 @@ use exponential::exp::exp;
 use machine::constants::Machine;
 
 // Two neighbouring values without e^-z, the argument as it was lowered, the trials of the two, and the rungs climbed.
-#[derive(Drop)]
+#[derive(Clone, Copy)]
 pub struct Search {
     pub older: Complex,
     pub newer: Complex,
@@ -22,7 +22,7 @@ pub struct Search {
 }
 
 // which values are lowered
-#[derive(Drop)]
+#[derive(Clone, Copy)]
 pub enum Rule {
     FirstOrders,
     OutOfUnderflow,

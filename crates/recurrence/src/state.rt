@@ -7,7 +7,7 @@ ghost use Rattle.recurrence.specs.State.{scale_of, reciprocal_of, boundary_of, l
 use complex::number::Complex;
 use machine::constants::Machine;
 
-#[derive(Drop)]
+#[derive(Clone, Copy)]
 pub enum OverflowState {
     NearUnder,
     None,
@@ -15,7 +15,7 @@ pub enum OverflowState {
 }
 
 // What a climb carries: two neighbouring values on the state's scale, and how many rungs the call has climbed so far.
-#[derive(Drop)]
+#[derive(Clone, Copy)]
 pub struct Climb {
     pub older: Complex,
     pub newer: Complex,
@@ -24,7 +24,7 @@ pub struct Climb {
 }
 
 // What one rung gives: the climb after it, its value off the scale, and whether the state moved.
-#[derive(Drop)]
+#[derive(Clone, Copy)]
 pub struct Rung {
     pub climb: Climb,
     pub entry: Complex,

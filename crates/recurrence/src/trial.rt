@@ -9,7 +9,7 @@ use logarithm::ln::ln;
 use machine::constants::Machine;
 
 // What a trial gives: whether the value is kept, and the value, which is zero where it is not.
-#[derive(Drop)]
+#[derive(Clone, Copy)]
 pub struct Trial {
     pub value: Complex,
     pub kept: bool,

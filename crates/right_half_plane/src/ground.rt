@@ -10,7 +10,7 @@ use complex::number::Complex;
 use rounding::round::round;
 use temme::difference::fraction_square;
 
-#[derive(Drop)]
+#[derive(Clone, Copy)]
 pub struct Ground {
     pub z: Complex,
     pub modulus: f64,

@@ -21,7 +21,7 @@ use recurrence::state::Climb;
 use refusal::refusal::Refusal;
 
 // The orders set to zero, the terms of the sum, the rungs climbed, and Miller's backward steps.
-#[derive(Drop)]
+#[derive(Clone, Copy)]
 pub struct Counts {
     pub zeros: u32,
     pub longest_sum: u32,
@@ -29,7 +29,7 @@ pub struct Counts {
     pub backward: u32,
 }
 
-#[derive(Drop)]
+#[derive(Clone, Copy)]
 pub enum Ending {
     Answered(Counts),
     Refused(Refusal),

@@ -10,7 +10,7 @@ use machine::constants::Machine;
 use recurrence::first::first_orders;
 use recurrence::state::{Climb, OverflowState, reciprocal};
 
-#[derive(Drop)]
+#[derive(Clone, Copy)]
 pub struct Lead {
     pub zeros: u32,
     pub first: Complex,

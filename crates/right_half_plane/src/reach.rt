@@ -12,7 +12,7 @@ use recurrence::state::Climb;
 use refusal::refusal::Refusal;
 
 // Where the climb stands at the first order wanted: on the scale of its state, or without e^-z and still to be tried.
-#[derive(Drop)]
+#[derive(Clone, Copy)]
 pub enum Reached {
     OnScale(Climb),
     Marked(Climb),

@@ -12,13 +12,13 @@ use recurrence::trial::failed;
 use refusal::refusal::Refusal;
 
 // Two neighbours on the scale of NearUnder, and the offset at which the plain climb resumes.
-#[derive(Drop)]
+#[derive(Clone, Copy)]
 pub struct Resumed {
     pub climb: Climb,
     pub next_offset: u32,
 }
 
-#[derive(Drop)]
+#[derive(Clone, Copy)]
 pub enum Recovered {
     Neighbours(Resumed),
     Refused(Refusal),

@@ -15,7 +15,7 @@ use recurrence::state::OverflowState;
 use refusal::refusal::Refusal;
 
 // One finished value, a pair of neighbouring seeds, or a refusal.
-#[derive(Drop)]
+#[derive(Clone, Copy)]
 pub enum Seeds {
     Finished(Complex),
     Pair(Complex, Complex),
@@ -23,7 +23,7 @@ pub enum Seeds {
 }
 
 // Beside them the state of their scale, whether they stand without e^-z, the terms of Temme's sum and Miller's backward steps.
-#[derive(Drop)]
+#[derive(Clone, Copy)]
 pub struct Seeded {
     pub seeds: Seeds,
     pub state: OverflowState,

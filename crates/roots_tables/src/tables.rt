@@ -5,7 +5,7 @@ ghost use Rattle.std.specs.Float.{nan};
 ghost use Rattle.roots_tables.specs.Tables.{constants, slopes, bends};
 
 // constant + slope * d - bend * d * d, with d the distance from the left end of the piece
-#[derive(Drop)]
+#[derive(Clone, Copy)]
 pub struct Quadratic {
     pub constant: f64,
     pub slope: f64,

@@ -7,7 +7,7 @@ ghost use Rattle.series_step.specs.Descent.{start_descent};
 use complex::number::Complex;
 
 // The orders set to zero, the terms of the longest sum, and the steps of the recurrence.
-#[derive(Drop)]
+#[derive(Clone, Copy)]
 pub struct Tally {
     pub zeros: u32,
     pub longest_sum: u32,
@@ -17,7 +17,7 @@ pub struct Tally {
 // The state between two orders: the last two values, raised near underflow, the entry of the order above, by what factor a value becomes
 // its entry, and how many orders are seeded. The types leave no byte of padding, which the compiler would carry through memory from order
 // to order.
-#[derive(Drop)]
+#[derive(Clone, Copy)]
 pub struct Descent {
     pub y_k_plus_2: Complex,
     pub y_k_plus_1: Complex,

@@ -7,7 +7,7 @@ ghost use Rattle.series_step.specs.Setting.{turned_of, square_of, setting_of};
 use complex::number::Complex;
 use complex::power::square;
 
-#[derive(Drop)]
+#[derive(Clone, Copy)]
 pub struct Setting {
     pub order: f64,
     pub re: f64,

@@ -9,14 +9,14 @@ ghost use Rattle.series_sum.specs.shapes.Sum.{sum_rest};
 use complex::number::Complex;
 use machine::constants::Machine;
 
-#[derive(Drop)]
+#[derive(Clone, Copy)]
 pub struct Sum {
     pub value: Complex,
     pub terms: u32,
 }
 
 // The error estimate, the denominator of the next term, and by how much that grows.
-#[derive(Drop)]
+#[derive(Clone, Copy)]
 pub struct Estimate {
     pub error: f64,
     pub denominator: f64,
@@ -24,7 +24,7 @@ pub struct Estimate {
 }
 
 // A sum under way, its last term, and how many terms are in it.
-#[derive(Drop)]
+#[derive(Clone, Copy)]
 pub struct Partial {
     pub value: Complex,
     pub term: Complex,

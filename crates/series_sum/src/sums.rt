@@ -10,21 +10,21 @@ use complex::number::Complex;
 use machine::constants::Machine;
 
 // The sums at the higher and at the lower order.
-#[derive(Drop)]
+#[derive(Clone, Copy)]
 pub struct Sums {
     pub higher: Sum,
     pub lower: Sum,
 }
 
 // The same under way.
-#[derive(Drop)]
+#[derive(Clone, Copy)]
 pub struct Partials {
     pub higher: Partial,
     pub lower: Partial,
 }
 
 // At what error each sum ends.
-#[derive(Drop)]
+#[derive(Clone, Copy)]
 pub struct Tolerances {
     pub higher: f64,
     pub lower: f64,

@@ -6,7 +6,7 @@ ghost use Rattle.splitting.specs.Cut.{part_of, Taken};
 pub const NEWLINE: u8 = 10;
 
 // The next byte to take, how much of the line is held, and whether it has come to its end.
-#[derive(Drop)]
+#[derive(Clone, Copy)]
 pub struct Piece {
     pub at: usize,
     pub held: usize,

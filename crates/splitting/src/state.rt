@@ -8,7 +8,7 @@ const ZERO: u8 = 48;
 const ONE: u8 = 49;
 
 // Going on; everything read and answered; a write that failed; a read that failed.
-#[derive(Drop)]
+#[derive(Clone, Copy)]
 pub enum State {
     Going,
     Whole,

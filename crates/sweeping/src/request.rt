@@ -35,7 +35,7 @@ pub struct Request {
     pub steps: u32,
 }
 
-#[derive(Drop)]
+#[derive(Clone, Copy)]
 pub enum Requested {
     Sought(Request),
     NoRequest,

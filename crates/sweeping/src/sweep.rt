@@ -11,7 +11,7 @@ use crate::request::{Request, normalised_request};
 use call::checks::Verdict;
 
 // The refusal's number or 0, and how many bytes the frames are.
-#[derive(Drop)]
+#[derive(Clone, Copy)]
 pub struct Swept {
     pub number: u32,
     pub needed: u32,

@@ -19,7 +19,7 @@ const COEFFICIENTS: [f64; 8] = [
 ];
 
 // A sum under way: the power of its next term, whether the last term was below 2^-52, and how many terms are in it.
-#[derive(Drop)]
+#[derive(Clone, Copy)]
 pub struct Partial {
     pub power: f64,
     pub sum: f64,

@@ -12,7 +12,7 @@ use gamma_ln::gamma_ln::gamma_ln;
 use machine::magnitude::magnitude;
 
 // πν / sin πν, 1/Γ(1+ν), 1/Γ(1-ν), (1/Γ(1-ν) - 1/Γ(1+ν)) / 2ν, and (1/Γ(1-ν) + 1/Γ(1+ν)) / 2.
-#[derive(Drop)]
+#[derive(Clone, Copy)]
 pub struct Gammas {
     pub one_over_sinc: f64,
     pub plus: f64,

@@ -11,7 +11,7 @@ use complex::number::{Complex, real_over};
 use complex::power::square;
 use machine::constants::Machine;
 
-#[derive(Drop)]
+#[derive(Clone, Copy)]
 pub struct Temme {
     pub first: Complex,
     pub second: Complex,

@@ -4,7 +4,7 @@
 ghost use Rattle.std.specs.Prelude.{◌≡◌, ◌≤◌};
 ghost use Rattle.temme.specs.shapes.Shares.{is_whole, share_of, square_share_of, whole_shares_of, shares_of};
 
-#[derive(Drop)]
+#[derive(Clone, Copy)]
 pub struct Reciprocals {
     pub of_k: f64,
     pub of_denominator: f64,

@@ -9,7 +9,7 @@ use complex::number::Complex;
 use machine::constants::Machine;
 
 // What each turn takes: z²/4, |z|²/4, the fraction ν and its square.
-#[derive(Drop)]
+#[derive(Clone, Copy)]
 pub struct Fixed {
     pub z_sqr_over_4: Complex,
     pub abs_z_sqr_over_4: f64,
@@ -18,7 +18,7 @@ pub struct Fixed {
 }
 
 // A sum under way, in the Rust's names, and how many terms were added.
-#[derive(Drop)]
+#[derive(Clone, Copy)]
 pub struct Terms {
     pub temme_coeff: Complex,
     pub neg_order_term: Complex,

@@ -1,0 +1,22 @@
+use mathlib.Core.Path.{◌≡◌}
+use Prim.Native.Nat.{ℕ, ◌+◌, ◌-◌, ◌*◌, ◌/◌, ◌≤◌}
+use native.Mathlib.Omega.{arith}
+use lib.ListN.{length}
+use Rattle.recurrence.specs.shapes.Stretch.{PartHeld}
+use Rattle.recurrence.proofs.fill.stretch.Given as goal
+
+pub rungs : (c₀ c d : ℕ) → c₀ ≤ c → d ≡ c + 4 → c₀ ≤ d
+rungs c₀ c d h e = omega arith
+
+abbrev pub invariant-loop-at : goal.invariant-loop-at
+invariant-loop-at l =
+    (l.initial.c.rungs ≤ l.c.rungs)
+    × (l.i ≡ l.from + (l.c.rungs - l.initial.c.rungs))
+    × (l.at ≡ l.place + (l.c.rungs - l.initial.c.rungs) * 2)
+    × (l.at ≤ length l.initial.out)
+    × (length l.out ≡ length l.initial.out)
+    × (l.c.state ≡ l.initial.c.state)
+    × PartHeld l.two_over_z l.base_order l.from (l.from + (length l.initial.out - l.place) / 2) l.initial.c l.place l.initial.out l.c l.out
+
+abbrev pub decreases-loop-at : goal.decreases-loop-at
+decreases-loop-at l = length l.initial.out - l.at

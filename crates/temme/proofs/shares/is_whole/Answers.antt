@@ -1,0 +1,11 @@
+-- `temme::shares::is_whole` meets its contract. Assumes nothing.
+use Rattle.temme.specs.shapes.Shares.{is_whole}
+use Rattle.temme.proofs.shares.is_whole.Goals as goal
+
+pub returns-then-fraction : goal.returns-then-fraction
+unfolding is_whole
+returns-then-fraction c = simp c.if-fraction.true
+
+pub returns : goal.returns
+unfolding is_whole
+returns c = simp c.if-fraction.false

@@ -2,7 +2,7 @@
 # Tests both bindings: the C header with the x86-64 archive (under the kit's emulator elsewhere) and with the archive for this processor, as C99, C11 and
 # C++17; the Rust crate with the latter, in the repository and outside of it, and its feature num-complex where that crate is found: in Debian's package
 # librust-num-complex-dev, or in the folder of crates that LICHENOAR_CRATES_DIR names.
-# Needs target/staticlib/libcapi.a (rt staticlib capi) and target/host/libcapi.a (tools/host/archive.sh).
+# Needs target/staticlib/libcapi.a and target/host/libcapi.a (tools/host/archive.sh).
 set -eu
 cd "$(dirname "$0")/.."
 . tools/host/kit.sh

@@ -59,7 +59,7 @@ fn folder() -> PathBuf {
         Some(found) => found,
         None => refuse(format!(
             "there is no {ARCHIVE} for {}. Where Lichenoar is installed, set LICHENOAR_LIB_DIR to the folder that holds it, or PKG_CONFIG_PATH to that of \
-             lichenoar.pc. In its repository, `rt staticlib capi` writes target/staticlib/{ARCHIVE} (x86-64) and tools/host/archive.sh writes \
+             lichenoar.pc. In its repository, tools/host/archive.sh writes target/staticlib/{ARCHIVE} (x86-64) and \
              target/host/{ARCHIVE} (the processor of the machine that it runs on)",
             variable("CARGO_CFG_TARGET_ARCH")
         )),

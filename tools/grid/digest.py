@@ -31,7 +31,7 @@ def says(crate, module, seen):
     seen.add((crate, module))
     path = os.path.join(TOP, "crates", crate, "specs", module + ".antt")
     text = re.sub(r"--[^\n]*", "", open(path, encoding="utf-8").read())
-    below = re.findall(r"^use Rattle·(\w+?)(?:·specs\.specs|\.specs)\.([A-Z]\w*)", text, flags=re.M)
+    below = re.findall(r"^use Rattle\.(?!std\.)(\w+)\.specs\.([A-Z]\w*)", text, flags=re.M)
     text = re.sub(r"^use [^\n]*", "", text, flags=re.M)
     return "".join(says(c, m, seen) for c, m in below) + " ".join(text.split()) + "\n"
 

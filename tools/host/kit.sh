@@ -7,8 +7,13 @@ if [ -z "$kit" ] && kit=$(command -v rt); then
     kit=$(readlink -f "$kit")
     kit=${kit%/*/*}
 fi
-kit_tools=$kit/on/$kit_machine/toolchain
-kit_link=$kit/on/$kit_machine/bin/rattle-link
+kit_tools=$kit/toolchain
+kit_link=$kit/bin/rattle-link
+# a kit for several processors has what is one processor's own below on/
+if [ -d "$kit/on/$kit_machine" ]; then
+    kit_tools=$kit/on/$kit_machine/toolchain
+    kit_link=$kit/on/$kit_machine/bin/rattle-link
+fi
 
 # kit_as_pinned: whether rt is of the kit that the file KIT names, or of another release with the same logic; where the two versions differ, prints both
 kit_as_pinned() {

@@ -1,33 +1,35 @@
-# Sourced from the repository's root: the LLVM module that `rt` hands to the kit's compiler, kept, and compiled for the processor of this machine with
+# Sourced from the repository's root: the LLVM module that the kit's prover hands to the kit's compiler, kept, and compiled for the processor of this machine with
 # no operations joined (no fused multiply-add): the same f64 steps, hence the same bits.
 . tools/host/kit.sh
 . tools/host/build.sh
-shadow=$PWD/target/host/kit
+shadow=
 module=$PWD/target/host/module.bc
 object=$PWD/target/host/module.o
+words=$PWD/target/host/words
 mkdir -p target/host target/dates
 
-# keep_module: makes target/host/kit, a kit whose compiler also keeps the module that it is handed to compile at -O3, and the object that it makes of it.
-# RATTLE_HOME=$shadow rt .. uses it.
+# keep_module: makes a toolchain of links, outside the repository, where rt would refuse them: the kit's, with a compiler that also keeps the module that it is handed to
+# compile at -O3, the words that it is given for that, one a line, and the object that it makes of it. compiled NAME FILE "$shadow" uses it; it goes when the script ends.
 keep_module() {
     local f
-    rm -rf "$shadow" "$module" "$object"
-    mkdir -p "$shadow/on/$kit_machine/toolchain/bin"
-    for f in "$kit"/*; do [ "$(basename "$f")" = on ] || ln -s "$f" "$shadow/$(basename "$f")"; done
-    for f in "$kit/on/$kit_machine"/*; do [ "$(basename "$f")" = toolchain ] || ln -s "$f" "$shadow/on/$kit_machine/$(basename "$f")"; done
-    ln -s "$kit_tools/lib" "$shadow/on/$kit_machine/toolchain/lib"
-    for f in "$kit_tools"/bin/*; do [ "$(basename "$f")" = clang ] || ln -s "$f" "$shadow/on/$kit_machine/toolchain/bin/$(basename "$f")"; done
-    cat > "$shadow/on/$kit_machine/toolchain/bin/clang" <<WRAP
+    rm -f "$module" "$object" "$words"
+    shadow=$(mktemp -d) || exit 1
+    trap 'rm -rf "$shadow"' EXIT
+    mkdir -p "$shadow/bin"
+    ln -s "$kit_tools/lib" "$shadow/lib"
+    for f in "$kit_tools"/bin/*; do [ "$(basename "$f")" = clang ] || ln -s "$f" "$shadow/bin/$(basename "$f")"; done
+    cat > "$shadow/bin/clang" <<WRAP
 #!/bin/sh
 "$kit_tools/bin/clang" "\$@" || exit
 case " \$* " in *' -O3 '*) ;; *) exit 0 ;; esac
+printf '%s\n' "\$@" > "$words"
 for word in "\$@"; do
     case \$word in *.bc) cp "\$word" "$module" ;; esac
     [ "\${before:-}" != -o ] || cp "\$word" "$object"
     before=\$word
 done
 WRAP
-    chmod +x "$shadow/on/$kit_machine/toolchain/bin/clang"
+    chmod +x "$shadow/bin/clang"
 }
 
 host_clang() { "$kit_tools/bin/clang" --no-default-config "$@" 2> target/host/said || { cat target/host/said >&2; exit 1; }; }

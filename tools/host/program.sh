@@ -1,7 +1,8 @@
 #!/usr/bin/env bash
 # program.sh [NAME]: writes target/host/NAME, a program (the frame program where none is named) for the processor of this machine, unless it is newer than its sources. On x86-64
-# it is target/bin/NAME itself, or, where the C library here is older than the kit's and cannot start it, the object of that program linked with the one here. Elsewhere it is the same LLVM module, compiled for this processor (tools/host/module.sh) and linked with this machine's C library. `rt try` makes
-# the module with no second proof; its code for x86-64 must be that of the proved program, function by function (tools/host/same_code.py), and else NAME is proved again for it.
+# it is target/bin/NAME itself, or, where the C library here is older than the kit's and cannot start it, the object of that program linked with the one here. Elsewhere it is
+# the same LLVM module, compiled for this processor (tools/host/module.sh) and linked with this machine's C library; its code for x86-64 must be that of the proved program,
+# function by function (tools/host/same_code.py).
 # Where something that it needs is missing, one line says what to run first, and the status is 1; it is 2 where there is no program NAME.
 set -eu
 cd "$(dirname "$0")/../.."
@@ -35,20 +36,6 @@ proved_here() {
     [ -f "target/obj/$name.o" ] || missing "target/obj/$name.o, the object of the proved program, is missing; first run: rm -f target/stamp/$name && ./run $name < /dev/null"
 }
 
-# tried: the module of `rt try`, in a repository of links where the program has no input
-tried() {
-    local crate try=target/host/try
-    rm -rf "$try"
-    mkdir -p "$try/crates/$name"
-    cp crates.txt "$try/crates.txt"
-    for crate in "${crates_found[@]}"; do [ "$crate" = "$name" ] || ln -s "$PWD/crates/$crate" "$try/crates/$crate"; done
-    ln -s "$PWD/crates/$name/src" "$try/crates/$name/src"
-    # what the proved program writes where there is no input
-    "${kit_command[@]}" "target/bin/$name" < /dev/null > "$try/crates/$name/stdout" 2> /dev/null || return
-    (cd "$try" && RATTLE_HOME=$shadow rt try "$name") > target/host/log 2>&1 || return
-    python3 tools/host/same_code.py "$object" "target/obj/$name.o" >> target/host/log 2>&1
-}
-
 named
 made && exit 0
 tools_here
@@ -63,17 +50,13 @@ if [ "$kit_machine" = x86_64 ]; then
     else
         command -v gcc > /dev/null || missing "the C library here cannot start target/bin/$name, and there is no gcc to link it again; install it first (Debian: apt-get install gcc)"
         [ -f "target/obj/$name.o" ] || missing "target/obj/$name.o, the object of the proved program, is missing; first run: rm -f target/stamp/$name && ./run $name < /dev/null"
-        gcc -o "target/host/$name" "target/obj/$name.o" -lm
+        gcc -o "target/host/$name" "target/obj/$name.o" $(ls target/obj/lib*_c.a 2> /dev/null) -lm
     fi
 else
     proved_here
-    crates_of "$name"
     keep_module
-    if ! tried; then
-        say "rt try did not give the code of the proved program (target/host/log), so $name is proved again and its module kept"
-        rm -f "target/stamp/$name"
-        RATTLE_HOME=$shadow proving "$name" check "$name"
-    fi
+    compiled "$name" "target/host/try.o" "$shadow" || { tail -n 20 target/run.log >&2; missing "the module of $name could not be made (target/run.log)"; }
+    python3 tools/host/same_code.py "$object" "target/obj/$name.o" > target/host/log 2>&1 || missing "the module that was kept is not the proved program's: $(tail -n 1 target/host/log)"
     for_host "target/host/$name.o"
     gcc -o "target/host/$name" "target/host/$name.o" -lm
 fi

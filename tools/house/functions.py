@@ -6,7 +6,7 @@ from functools import lru_cache
 
 from sources import TOP, bare, code_of, crates, files
 
-CONTRACT = re.compile(r"\b(requires|ensures|decreases|invariant)\s*$")
+CONTRACT = re.compile(r"\b(requires|ensures|decreases|invariant)\b\*?(\s+\w+)?\s*$")
 WORDS = {"if", "while", "match", "return", "for", "loop", "in"}
 
 

@@ -9,15 +9,13 @@ import sys
 import sources
 
 FOLDER = sources.TOP / "target" / "house"
-KIT = ["io", "libc"]
+KIT = ["io"]
 MAIN = """#![allow(warnings)]
 %s
-pub mod libc {
-    pub const STDIN_FILENO: i32 = 0;
-    pub const STDOUT_FILENO: i32 = 1;
-    pub const STDERR_FILENO: i32 = 2;
-    pub fn read(_: i32, into: &mut [u8]) -> isize {
-        std::io::Read::read(&mut std::io::stdin(), into).unwrap() as isize
+pub struct HostRuntime;
+impl HostRuntime {
+    pub fn stdin(&self) -> std::io::Stdin {
+        std::io::stdin()
     }
 }
 pub mod io {
@@ -58,7 +56,7 @@ pub mod entered {
     }
 }
 fn main() {
-    %s();
+    %s(HostRuntime);
     entered::print();
 }
 """
@@ -82,6 +80,10 @@ def rust(house, module, numbers):
 
     code = re.sub(r"(?m)(^(?:pub )?use |)(?<![\w:])(\w+)::", path, code)
     code = re.sub(r"(?m)^fn main\(", "pub fn main(", code)
+    code = re.sub(r"\bHostRuntime\b", "crate::HostRuntime", code)
+    code = re.sub(r"(?m)^\s*#!?\[tactic\([^\n]*\]$", "", code)
+    # the kit's derives are others
+    code = re.sub(r"(?m)^\s*#\[derive\([^\n]*\]\n(?=(?:pub )?(?:struct|enum) )", "", code)
     return re.sub(r"(?m)^((?:pub )?(?:struct|enum) )", r"#[derive(Clone, Copy)] \1", code)
 
 

@@ -8,9 +8,9 @@ KINDS = ["code", "definition", "proof"]
 
 
 def listed():
-    """crates.txt: each crate and the crates that its line lists."""
+    """crates.txt: each crate and the crates that its line lists. Behind a name may stand what kind of crate it is."""
     lines = (line.split("#")[0] for line in (TOP / "crates.txt").read_text(encoding="utf-8").splitlines())
-    return {name.strip(): others.split() for name, _, others in (line.partition(":") for line in lines if ":" in line)}
+    return {name.split()[0]: others.split() for name, _, others in (line.partition(":") for line in lines if ":" in line)}
 
 
 def crates():
@@ -49,6 +49,6 @@ def uses():
                 own = set(re.findall(r"\bmod (\w+);", code))
                 for other in sorted(set(re.findall(r"(?<![\w:])(\w+)::", code)) - own):
                     note(crate, other, "code")
-                for other in sorted(set(re.findall(r"Rattle·(\w+)", text))):
+                for other in sorted(set(re.findall(r"\bRattle\.(\w+)", text))):
                     note(crate, other, "proof" if part == "proofs" else "definition")
     return found

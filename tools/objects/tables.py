@@ -18,7 +18,7 @@ MOVES = [(r'mov(aps|apd|ups|upd|dqa|dqu)$', 16), (r'mov(q|sd|lpd|hpd|lps|hps)$',
 
 def numbers(path):
     """A table's bits, from its definition, which tools/tables/gamma_ln.py wrote."""
-    found = {int(bits, 16) for bits in re.findall(r'ofBits binary64 0x([0-9A-F]{16})', open(os.path.join(CRATES, path), encoding='utf-8').read())}
+    found = {int(bits, 16) for bits in re.findall(r'of_bits binary64 0x([0-9A-F]{16})', open(os.path.join(CRATES, path), encoding='utf-8').read())}
     return found - {0}
 
 

@@ -77,7 +77,7 @@ def of_rust(one):
 def of_crate(one, entries):
     source, definition = "crates/refusal/src/refusal.rt", "crates/refusal/specs/Number.antt"
     yield Edit("crate", f"{one.number} as another number", source, rf"(?P<a>Refusal::{one.case} => ){one.number},", r"\g<a>9" + str(one.number) + ",")
-    yield Edit("crate", f"{one.number} defined as another number", definition, rf"^(?P<a>numberOf {one.case} = ){one.number}$", r"\g<a>9" + str(one.number))
+    yield Edit("crate", f"{one.number} defined as another number", definition, rf"^(?P<a>number_of {one.case} = ){one.number}$", r"\g<a>9" + str(one.number))
     yield Edit("crate", f"no case {one.case}", source, rf"^    {one.case},\n", "")
     yield Edit("crate", f"a case behind {one.case}", source, rf"^(?P<a>    {one.case},\n)", r"\g<a>    Another,\n")
     if one != entries[0]:
@@ -100,20 +100,20 @@ def of_claims(one):
             yield Edit("claims", f"{giver}, {field} without {one.number}", path, all_that, lambda m: m["a"] + re.sub(rf"(?<!\d){one.number} ∷", "", m["l"]))
         else:
             yield Edit("claims", f"{giver}, {field} with {one.number}", path, all_that, rf"\g<a> {one.number} ∷\g<l>")
-    all_that = rf"(?P<a>^pub record OfPage\b{rest}pub no-other :{rest}\(0 ∷)(?P<l>[^\]]*)"
+    all_that = rf"(?P<a>^pub record OfPage\b{rest}pub no_other :{rest}\(0 ∷)(?P<l>[^\]]*)"
     if "page" in one.given_by:
         yield Edit("claims", f"a page without {one.number}", same.PAGES, all_that, lambda m: m["a"] + re.sub(rf"(?<!\d){one.number} ∷", "", m["l"]))
     else:
         yield Edit("claims", f"a page with {one.number}", same.PAGES, all_that, rf"\g<a> {one.number} ∷\g<l>")
     path = same.CLAIMS
-    a_line = r"(?P<a>^  pub no-other : \(line\b[^\n]*\(0 ∷)(?P<l>[^\]\n]*)"
+    a_line = r"(?P<a>^  pub no_other : \(line\b[^\n]*\(0 ∷)(?P<l>[^\]\n]*)"
     if {"K", "I", "frame"} & set(one.given_by):
         yield Edit("claims", f"no line with {one.number}", path, a_line, lambda m: m["a"] + re.sub(rf"(?<!\d){one.number} ∷", "", m["l"]))
     else:
         yield Edit("claims", f"a line with {one.number}", path, a_line, rf"\g<a> {one.number} ∷\g<l>")
     if "frame" in one.given_by:
-        yield Edit("claims", f"frames get another number than {one.number}", path, rf"(?P<a>number ≡ ){one.number}(?P<b> → parsedOf line ≡ Malformed)", r"\g<a>99\g<b>")
-        no_request = rf"(?P<a>NoRequest → \(lineSwept line \.number ≡ ){one.number}(?=\))"
+        yield Edit("claims", f"frames get another number than {one.number}", path, rf"(?P<a>number ≡ ){one.number}(?P<b> → parsed_of line ≡ Malformed)", r"\g<a>99\g<b>")
+        no_request = rf"(?P<a>NoRequest → \(\(line_swept line\)\.number ≡ ){one.number}(?=\))"
         yield Edit("claims", f"requests get another number than {one.number}", same.SWEEPS, no_request, r"\g<a>99")
 
 

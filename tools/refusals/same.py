@@ -29,7 +29,7 @@ NAMED = {"K": "K", "I": "I", "log-gamma": "[Ll]og-gamma", "sweep": "[Ss]weep"}
 # the record of the claims that has whose list; and where a field of it says that there is no number but these and 0
 CLAIMS, SWEEPS, PAGES = "crates/claims/proofs/Claims.antt", "crates/claims/proofs/Sweeps.antt", "crates/claims/proofs/Pages.antt"
 RECORDS = {"K": (CLAIMS, "OfK"), "I": (CLAIMS, "OfSeries"), "log-gamma": (CLAIMS, "OfLogGamma"), "sweep": (SWEEPS, "OfSweep")}
-NO_OTHER = (("log-gamma", "no-other"), ("sweep", "no-other"), ("sweep", "line-no-other"))
+NO_OTHER = (("log-gamma", "no_other"), ("sweep", "no_other"), ("sweep", "line-no-other"))
 
 
 def text_of(top, path):
@@ -64,7 +64,7 @@ def crate(entries, top):
     cases = re.findall(r"^    (\w+),$", part(source, r"^pub enum Refusal \{", r"^\}", "the enum"), flags=re.M)
     wrong = [] if cases == [one.case for one in entries] else [f"the cases are {' '.join(cases)}, and in the list {' '.join(one.case for one in entries)}"]
     numbers = {one.case: one.number for one in entries}
-    for path, pattern in (("crates/refusal/src/refusal.rt", r"^\s*Refusal::(\w+) => (\d+),"), ("crates/refusal/specs/Number.antt", r"^numberOf (\w+) = (\d+)$")):
+    for path, pattern in (("crates/refusal/src/refusal.rt", r"^\s*Refusal::(\w+) => (\d+),"), ("crates/refusal/specs/Number.antt", r"^number_of (\w+) = (\d+)$")):
         got, twice = once([(case, int(number)) for case, number in re.findall(pattern, text_of(top, path), flags=re.M)], path)
         wrong += twice + compared(got, numbers, path)
     return wrong
@@ -89,19 +89,19 @@ def claims(entries, top):
     got = {giver: sorted(numbers) for giver, numbers in proved_orders(top).items()}
     wanted = {giver: [one.number for one in entries if giver in one.given_by] for giver in listed.GIVERS}
     # a page has no list of checks: one number, or none
-    got["page"] = sorted(map(int, re.findall(r"[1-9]\d*", part(record_of(top, PAGES, "OfPage"), r"^  pub no-other :[^\n]*\(0(?= ∷)", r"\[\]", "the numbers of a page"))))
+    got["page"] = sorted(map(int, re.findall(r"[1-9]\d*", part(record_of(top, PAGES, "OfPage"), r"^  pub no_other :[^\n]*\(0(?= ∷)", r"\[\]", "the numbers of a page"))))
     for giver, field in NO_OTHER:
         others = part(record_of(top, *RECORDS[giver]), rf"^  pub {field} :(?:(?!^  pub ).)*?\(0(?= ∷)", r"\[\]", f"{field} of {RECORDS[giver][1]}")
         got[f"{giver}, {field}"] = sorted(map(int, re.findall(r"\d+", others[others.rindex("("):])))
         wanted[f"{giver}, {field}"] = [0] + wanted[giver]
     # a request line that is none
-    none = re.findall(r"requestedOf line ≡ NoRequest → \(lineSwept line \.number ≡ (\d+)\)", record_of(top, *RECORDS["sweep"]))
+    none = re.findall(r"requested_of line ≡ NoRequest → \(\(line_swept line\)\.number ≡ (\d+)\)", record_of(top, *RECORDS["sweep"]))
     got["no request"] = list(map(int, none))
     wanted["no request"] = [one.number for one in entries if one.case == "Malformed"]
     body = record_of(top, CLAIMS, "OfLines")
-    got["frame"] = sorted(set(map(int, re.findall(r"number ≡ (\d+) → parsedOf line ≡ Malformed", body))))
+    got["frame"] = sorted(set(map(int, re.findall(r"number ≡ (\d+) → parsed_of line ≡ Malformed", body))))
     # an answer line has one of these: what K, I and the program give, and 0
-    got["a line"] = sorted(map(int, re.findall(r"\d+", part(body, r"^  pub no-other : \(line\b[^\n]*\(0", r"\[\]", "the numbers of a line"))))
+    got["a line"] = sorted(map(int, re.findall(r"\d+", part(body, r"^  pub no_other : \(line\b[^\n]*\(0", r"\[\]", "the numbers of a line"))))
     wanted["a line"] = sorted({0}.union(*(wanted[giver] for giver in ("K", "I", "frame"))))
     return compared(got, wanted, "crates/claims/proofs")
 

@@ -23,22 +23,26 @@ PROVER = r'''#!/usr/bin/env bash
 echo "$*" >> "$RATTLE_HOME/calls"
 case $1 in
 version) cat "$RATTLE_HOME/KIT-ID" ;;
-check)
+run)
     cat > "$RATTLE_HOME/eaten"
-    echo "rt: low proved (unchanged since it was last proved)"
+    echo "rt: mid: begins with what a check kept in elsewhere/crates/mid" >&2
+    echo "rt: chose --jobs 2 for mid" >&2
     (sleep "$(cat "$RATTLE_HOME/seconds")") &
     echo $! > "$RATTLE_HOME/prover"
     wait
-    [ ! -f "$RATTLE_HOME/refuses" ] || { echo "the goal that is open"; echo "rt: mid NOT PROVED"; exit 1; }
-    echo "fn mid::f: proved"
-    echo "rt: mid proved (1 s)"
-    mkdir -p target/bin target/stamp
-    if [ ! -f target/stamp/prog ] || ! cmp -s target/stamp/prog crates/prog/src/main.rt; then
-        { echo '#!/usr/bin/env bash'; cat crates/prog/src/main.rt; } > target/bin/prog
-        chmod +x target/bin/prog
-        cp crates/prog/src/main.rt target/stamp/prog
-        echo "rt: prog proved (2 s)"
+    [ ! -f "$RATTLE_HOME/refuses" ] || { echo "the goal that is open" >&2; echo "logic=not-proved" >&2; exit 1; }
+    echo "fn mid::f: proved" >&2
+    echo "logic=proved functions=1" >&2
+    mkdir -p out
+    if [ ! -f out/prog.stamp ] || ! cmp -s out/prog.stamp src/main.rt; then
+        echo "rt: chose --jobs 2 for prog" >&2
+        { echo '#!/usr/bin/env bash'; cat src/main.rt; } > out/prog
+        chmod +x out/prog
+        cp src/main.rt out/prog.stamp
+        echo "logic=proved functions=2" >&2
     fi
+    echo "rt: running out/prog; to give it other input, run that file yourself" >&2
+    cat "$RATTLE_HOME/writes"
     ;;
 esac
 '''
@@ -69,7 +73,8 @@ class Made:
         write(os.path.join(self.kit, "bin/rt"), PROVER, 0o755)
         write(os.path.join(self.kit, "KIT-ID"), VERSION + "\n")
         write(os.path.join(self.kit, "seconds"), "0")
-        write(os.path.join(self.kit, "on", os.uname().machine, "toolchain/lib/ld-linux-x86-64.so.2"), '#!/bin/sh\nshift 2\nexec "$@"\n', 0o755)
+        write(os.path.join(self.kit, "writes"), "")
+        write(os.path.join(self.kit, "toolchain/lib/ld-linux-x86-64.so.2"), '#!/bin/sh\nshift 2\nexec "$@"\n', 0o755)
         self.environment = dict(os.environ, RATTLE_HOME=self.kit, PATH=os.path.join(self.kit, "bin") + ":/usr/bin:/bin")
 
     def at(self, path):
@@ -91,7 +96,7 @@ class Made:
         if not os.path.exists(path):
             return 0
         with open(path) as calls:
-            number = sum(line.startswith("check") for line in calls)
+            number = sum(line.startswith("run") for line in calls)
         os.remove(path)
         return number
 
@@ -144,11 +149,20 @@ def words(made):
 def builds(made):
     status, out, said = made.run("prog", "a", "b c", data=b"asked\n")
     expect((status, out), (0, f"asked\n2 a b c\n{made.room}\n"), "the first run")
-    expect(said[1:], ["run: mid proved (1 s): 2 of 3", "run: prog proved (2 s): 3 of 3"], "a line a crate")
-    assert said[0].startswith("run: proving and compiling what is new of prog and of the 2 crates beneath it") and "minutes" in said[0], said
+    expect(said[1:], ["run: mid proved (0 s)", "run: prog proved (0 s)"], "a line a crate")
+    assert said[0].startswith("run: proving and compiling what is new of prog and of the 2 crates beneath it") and "hour" in said[0], said
     expect(made.proofs(), 1, "the first run proves once")
     with open(os.path.join(made.kit, "eaten")) as eaten:
         expect(eaten.read(), "", "the prover reads nothing of the input")
+    write(made.at("crates/prog/stdin"), "recorded\n")
+    write(made.at("crates/prog/stdout"), "wanted\n")
+    status, out, said = made.run("prog", data=b"asked\n")
+    assert (status, out) == (1, "") and "does not write what crates/prog/stdout has" in said[-1], said
+    write(os.path.join(made.kit, "writes"), "wanted\n")
+    expect(made.run("prog", data=b"asked\n")[0], 0, "a program that writes what it should")
+    with open(os.path.join(made.kit, "eaten")) as eaten:
+        expect(eaten.read(), "recorded\n", "the program is tried on its recorded input")
+    made.proofs()
     bare = dict(made.environment, PATH="/usr/bin:/bin")
     expect(made.run("prog", data=b"again\n", env=bare), (0, f"again\n0 \n{made.room}\n", []), "no prover on the path, none needed")
     expect(made.proofs(), 0, "no proof where nothing changed")
@@ -215,7 +229,7 @@ def kits(made):
     assert (status, out, len(said)) == (1, "", 1) and "no rt" in said[0] and VERSION in said[0], said
     write(os.path.join(made.kit, "refuses"), "")
     status, out, said = made.run("prog")
-    assert (status, out) == (1, "") and "run: mid NOT PROVED" in said and "the goal that is open" in said, said
+    assert (status, out) == (1, "") and "run: rt run in crates/prog ended with 1; the last that it said (target/run.log has all):" in said and "the goal that is open" in said, said
     os.remove(os.path.join(made.kit, "refuses"))
     expect(made.run("prog")[0], 0, "proved after a refusal")
     made.proofs()

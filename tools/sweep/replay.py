@@ -1,5 +1,5 @@
 #!/usr/bin/env python3
-"""replay.py: writes crates/sweep/stdin and crates/sweep/stdout, the requests that `rt check sweep` runs the program on and the frames that it must write.
+"""replay.py: writes crates/sweep/stdin and crates/sweep/stdout, the requests that `rt ci` runs the program on and the frames that it must write.
 The frames are worked out here, in this machine's own arithmetic, from docs/SCOPE.md, The sweep; nothing of the program is called. The numbers of the refusals
 go to standard output, one line each, as the program tells them on standard error."""
 import math

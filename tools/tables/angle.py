@@ -12,6 +12,7 @@ from pathlib import Path
 
 from mpmath import mp, mpf
 
+from arms import answers
 from f64 import bits, nearest, of_bits
 
 mp.prec = 300
@@ -39,7 +40,7 @@ def arm(key, j):
 
 def antt_float(x):
     """A negative literal of the source is the negation of a literal."""
-    text = f"ofBits binary64 0x{bits(abs(x)):016X}"
+    text = f"of_bits binary64 0x{bits(abs(x)):016X}"
     return f"neg ({text})" if bits(x) >> 63 else text
 
 
@@ -48,27 +49,23 @@ def antt(name, comment, values):
     return f"-- {comment}\nunfoldable pub {name} : List Float\n{name} =\n{body}    []\n"
 
 
-def answer(name, body):
-    return f"{name} : tie.Need-{name}\nunfolding tabledOf atanHigh atanLow\n{name} c = {body}\n"
-
-
 ABOUT = f"atan(j / {STEPS}) for j = 0 .. {STEPS}: the nearest f64, and the f64 nearest to what that leaves. Written by tools/tables/angle.py."
 
 SOURCE = f"""// {ABOUT}
 // A match and not an array: the compiler makes one load of it, where an indexed constant is copied to the stack at each call.
-ghost use mathlib.Core.Path.{{_≡_}};
-ghost use Prim.Native.Nat.{{_<_}};
-ghost use Rattle·angle_tables·specs.specs.Tables.{{tabledOf}};
+ghost use Rattle.std.specs.Prelude.{{◌≡◌, ◌<◌}};
+ghost use Rattle.angle_tables.specs.Tables.{{tabled_of}};
 
 // An angle as an unevaluated sum.
+#[derive(Drop)]
 pub struct Sum {{
     pub high: f64,
     pub low: f64,
 }}
 
 pub fn tabled(j: usize) -> Sum
-    requires {{ ⌜ j < {STEPS + 1} ⌝ }}
-    ensures {{ λ r. ⌜ r ≡ tabledOf j ⌝ }}
+    requires {{ j < {STEPS + 1} }}
+    ensures {{ result ≡ tabled_of j }}
 {{
     match j {{
 {"".join(arm(j, j) for j in range(STEPS))}{arm("_", STEPS)}    }}
@@ -76,43 +73,31 @@ pub fn tabled(j: usize) -> Sum
 """
 
 SPEC = f"""-- {ABOUT}
-use mathlib.Core.List.{{List, [], _∷_}}
-use Prim.Native.Nat.{{ℕ}}
-use lib.ListN.{{getD}}
-use lib.Ieee.{{Float, nan, binary64, ofBits, neg}}
-use Rattle·angle_tables·specs.specs.declared.tables.Sum.{{Sum}}
+use Rattle.std.specs.Prelude.{{List, [], ◌∷◌, ℕ, get_or, Float}}
+use Rattle.std.specs.Float.{{nan, binary64}}
+use Rattle.std.specs.Float.Ieee.{{of_bits, neg}}
+use Rattle.angle_tables.specs.declared.tables.Sum.{{Sum}}
 
-{antt("atanHigh", "the nearest f64", HIGH)}
-{antt("atanLow", "what is left", LOW)}
-unfoldable pub tabledOf : ℕ → Sum
-tabledOf j = record {{
-  high = getD atanHigh j nan;
-  low = getD atanLow j nan;
+{antt("atan_high", "the nearest f64", HIGH)}
+{antt("atan_low", "what is left", LOW)}
+unfoldable pub tabled_of : ℕ → Sum
+tabled_of j = record {{
+  high = get_or atan_high j nan;
+  low = get_or atan_low j nan;
 }}
 """
 
-NAMES = ["returns" if j == 0 else f"returns-{j + 1}" for j in range(STEPS + 1)]
-ANSWERS = [answer(NAMES[j], f"rw (c .match .keys{j + 1})") for j in range(STEPS)]
-ANSWERS.append(answer(NAMES[STEPS], f"rw (last {STEPS} (c .before .args .j) (c .before .pre) (c .match .rest))"))
-
 PROOF = f"""-- `angle_tables::tables::tabled` meets its contract: an arm for each entry. Written by tools/tables/angle.py. Assumes nothing.
-use Rattle·laws.proofs.Arms.{{last}}
-use Rattle·angle_tables·specs.specs.Tables.{{tabledOf, atanHigh, atanLow}}
-use Rattle·angle_tables·proofs.proofs.tables.tabled.Statement.{{statement}}
-use Rattle·angle_tables·proofs.proofs.tables.tabled.Tie as tie
-
-{chr(10).join(ANSWERS)}
-pub tabled-spec : {{M : Type 1}} → statement M
-tabled-spec =
-    tie.close
-    (tie.spec
-{chr(10).join("    " + name for name in NAMES)})
+use Rattle.laws.proofs.Arms.{{last}}
+use Rattle.angle_tables.specs.Tables.{{tabled_of, atan_high, atan_low}}
+use Rattle.angle_tables.proofs.tables.tabled.Goals as goal
+{chr(10).join(answers("j", STEPS + 1, "tabled_of atan_high atan_low"))}
 """
 
 FILES = {
     TABLES / "src" / "tables.rt": SOURCE,
     TABLES / "specs" / "Tables.antt": SPEC,
-    TABLES / "proofs" / "tables" / "tabled" / "Proof.antt": PROOF,
+    TABLES / "proofs" / "tables" / "tabled" / "Answers.antt": PROOF,
 }
 
 

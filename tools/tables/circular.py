@@ -36,13 +36,13 @@ PI_HIGH = nearest(mp.pi, 26)
 
 # file, name in src/, name in specs/, value
 REDUCE = [
-    ('TWO_OVER_PI', 'twoOverPi', nearest(1 / HALF_PI)),
+    ('TWO_OVER_PI', 'two_over_pi', nearest(1 / HALF_PI)),
     ('HALF_PI_HIGH', 'p1', P1),
     ('HALF_PI_MIDDLE', 'p2', P2),
     ('HALF_PI_LOW', 'p3', P3),
     ('TURNS', None, nearest(58 * mp.pi)),
-    ('PI_HIGH', 'piHigh', PI_HIGH),
-    ('PI_LOW', 'piLow', nearest(mp.pi - mpf(PI_HIGH))),
+    ('PI_HIGH', 'pi_high', PI_HIGH),
+    ('PI_LOW', 'pi_low', nearest(mp.pi - mpf(PI_HIGH))),
     ('PI', 'pi', nearest(mp.pi)),
     ('SHIFT', 'shift', 2.0 ** 52),
 ]
@@ -75,7 +75,7 @@ def check():
             if not found or bits(float(found.group(1))) != bits(value):
                 bad.append(f'src {name}')
             wanted = f'0x{bits(value):X}'
-            if in_spec and f'let {in_spec} = ofBits binary64 {wanted} in' not in spec or wanted not in spec:
+            if in_spec and f'let {in_spec} = of_bits binary64 {wanted} in' not in spec or wanted not in spec:
                 bad.append(f'specs {name}')
     # k p1 and k p2 are exact for k up to 2^17: 36 digits and 17
     for p in (P1, P2):
@@ -193,7 +193,7 @@ def measure(count, seed):
 def main():
     if sys.argv[1:] == []:
         for name, in_spec, value in KERNEL + REDUCE:
-            print(f'const {name}: f64 = {value!r};'.ljust(52), f'{in_spec} = ofBits binary64 0x{bits(value):016X}' if in_spec else f'ofBits binary64 0x{bits(value):016X}')
+            print(f'const {name}: f64 = {value!r};'.ljust(52), f'{in_spec} = of_bits binary64 0x{bits(value):016X}' if in_spec else f'of_bits binary64 0x{bits(value):016X}')
     elif sys.argv[1] == '--check':
         sys.exit(0 if check() else 1)
     elif sys.argv[1] == '--measure':

@@ -13,6 +13,7 @@ import sys
 
 import mpmath
 
+from arms import answers
 from f64 import bits, nearest, of_bits
 
 mpmath.mp.prec = 400
@@ -37,13 +38,12 @@ def rattle():
     out = ['// The powers of e that exp is put together from, each as its leading 26 digits and the rest, which is at least 0.',
            '// A table is a match, which the compiler turns into one constant in memory; an array would be stored anew in each call.',
            '// Written by tools/tables/exponential.py, with specs/Tables.antt and the proofs that they agree.',
-           'ghost use mathlib.Core.Path.{_≡_};',
-           'ghost use Prim.Native.Nat.{_<_};',
-           'ghost use Rattle·exponential_tables·specs.specs.Tables.{%s};' % ', '.join(name + 'Power' for name, _, _, _ in TABLES),
+           'ghost use Rattle.std.specs.Prelude.{◌≡◌, ◌<◌};',
+           'ghost use Rattle.exponential_tables.specs.Tables.{%s};' % ', '.join(name + '_power' for name, _, _, _ in TABLES),
            'use crate::Pair;']
     for name, what, index, entries in TABLES:
-        out += ['', '// ' + what, 'pub fn %s(%s: usize) -> Pair' % (name, index), '    requires { ⌜ %s < %d ⌝ }' % (index, len(entries)),
-                '    ensures { λ r. ⌜ r ≡ %sPower %s ⌝ }' % (name, index), '{', '    match %s {' % index]
+        out += ['', '// ' + what, 'pub fn %s(%s: usize) -> Pair' % (name, index), '    requires { %s < %d }' % (index, len(entries)),
+                '    ensures { result ≡ %s_power %s }' % (name, index), '{', '    match %s {' % index]
         for k, (high, low) in enumerate(entries):
             key = '_' if k == len(entries) - 1 else '%d' % k
             out += ['        %s => Pair {' % key, '            hi: %r,' % high, '            lo: %r,' % low, '        },']
@@ -54,49 +54,41 @@ def rattle():
 def definitions():
     out = ['-- The powers of e that exp is put together from, each as its leading 26 digits and the rest, which is at least 0. Definitions only.',
            '-- Written by tools/tables/exponential.py, with src/tables.rt.',
-           'use mathlib.Core.List.{List, [], _∷_}',
-           'use Prim.Native.Nat.{ℕ}',
-           'use lib.ListN.{getD}',
-           'use lib.Ieee.{Float, nan, binary64, ofBits}',
-           'use Rattle·exponential_tables·specs.specs.declared.Pair.{Pair}']
+           'use Rattle.std.specs.Prelude.{List, [], ◌∷◌, ℕ, get_or, Float}',
+           'use Rattle.std.specs.Float.{nan, binary64}',
+           'use Rattle.std.specs.Float.Ieee.{of_bits}',
+           'use Rattle.exponential_tables.specs.declared.Pair.{Pair}']
     for name, what, index, entries in TABLES:
-        for part, column in (('High', [h for h, _ in entries]), ('Low', [l for _, l in entries])):
-            out += ['', '-- %s, the %s' % (what, 'leading 26 digits' if part == 'High' else 'rest'), 'unfoldable pub %s%s : List Float' % (name, part), '%s%s =' % (name, part)]
-            out += ['    ofBits binary64 0x%016X ∷' % bits(v) for v in column]
+        for part, column in (('high', [h for h, _ in entries]), ('low', [l for _, l in entries])):
+            out += ['', '-- %s, the %s' % (what, 'leading 26 digits' if part == 'high' else 'rest'), 'unfoldable pub %s_%s : List Float' % (name, part), '%s_%s =' % (name, part)]
+            out += ['    of_bits binary64 0x%016X ∷' % bits(v) for v in column]
             out += ['    []']
-        out += ['', '-- both parts', 'unfoldable pub %sPower : ℕ → Pair' % name, 'unfolding %sHigh %sLow' % (name, name),
-                '%sPower %s = record { hi = getD %sHigh %s nan; lo = getD %sLow %s nan }' % (name, index, name, index, name, index)]
+        out += ['', '-- both parts', 'unfoldable pub %s_power : ℕ → Pair' % name, 'unfolding %s_high %s_low' % (name, name),
+                '%s_power %s = record { hi = get_or %s_high %s nan; lo = get_or %s_low %s nan }' % (name, index, name, index, name, index)]
     return '\n'.join(out) + '\n'
 
 
 def proof(name, index, entries):
-    count = len(entries)
-    needs = ['returns'] + ['returns-%d' % k for k in range(2, count + 1)]
+    count, words = len(entries), ['%s_%s' % (name, part) for part in ('high', 'low', 'power')]
     out = ['-- `exponential_tables::tables::%s` meets its contract, at each of its %d indices. Assumes nothing.' % (name, count),
            '-- Written by tools/tables/exponential.py.',
-           'use Rattle·exponential_tables·specs.specs.Tables.{%sHigh, %sLow, %sPower}' % (name, name, name),
-           'use Rattle·laws.proofs.Arms.{last}',
-           'use Rattle·exponential_tables·proofs.proofs.tables.%s.Statement.{statement}' % name,
-           'use Rattle·exponential_tables·proofs.proofs.tables.%s.Tie as tie' % name]
-    for k, need in enumerate(needs, 1):
-        fact = 'c .match .keys%d' % k if k < count else 'last %d (c .before .args .%s) (c .before .pre) (c .match .rest)' % (count - 1, index)
-        out += ['', '%s : tie.Need-%s' % (need, need), 'unfolding %sHigh %sLow %sPower' % (name, name, name), '%s c = rw (%s)' % (need, fact)]
-    out += ['', 'pub %s-spec : {M : Type 1} → statement M' % name, '%s-spec =' % name, '    tie.close', '    (tie.spec']
-    out += ['    ' + need for need in needs[:-1]] + ['    %s)' % needs[-1]]
-    return '\n'.join(out) + '\n'
+           'use Rattle.exponential_tables.specs.Tables.{%s}' % ', '.join(words),
+           'use Rattle.laws.proofs.Arms.{last}',
+           'use Rattle.exponential_tables.proofs.tables.%s.Goals as goal' % name]
+    return '\n'.join(out + answers(index, count, ' '.join(words))) + '\n'
 
 
 def files():
     """Each written file: its path in the crate, and its text."""
     return [('src/tables.rt', rattle()), ('specs/Tables.antt', definitions())] + [
-        ('proofs/tables/%s/Proof.antt' % name, proof(name, index, entries)) for name, _, index, entries in TABLES]
+        ('proofs/tables/%s/Answers.antt' % name, proof(name, index, entries)) for name, _, index, entries in TABLES]
 
 
 def coefficients(file, name):
     """The bits in a definition of specs/, in the order of the text."""
     text = open(os.path.join(CRATES, 'exponential', 'specs', file), encoding='utf-8').read()
     body = re.search(r'^%s [^\n]*=\n(.*?)(?:\n\n|\Z)' % name, text, re.S | re.M).group(1)
-    return [mpmath.mpf(of_bits(int(h, 16))) for h in re.findall(r'c\d+ = ofBits binary64 0x([0-9A-F]{16})', body)]
+    return [mpmath.mpf(of_bits(int(h, 16))) for h in re.findall(r'c\d+ = of_bits binary64 0x([0-9A-F]{16})', body)]
 
 
 def worst(name, low, high, polynomial, exact):
@@ -132,8 +124,8 @@ def check():
     for _, _, _, entries in TABLES:
         good = good and all(low >= 0 and bits(high) % 2 ** (53 - DIGITS) == 0 for high, low in entries)
     g = coefficients('Exp.antt', 'growth')
-    s = coefficients('Sinh.antt', 'sinhSmall')
-    c = coefficients('Cosh.antt', 'coshSmall')
+    s = coefficients('Sinh.antt', 'sinh_small')
+    c = coefficients('Cosh.antt', 'cosh_small')
     good = worst('growth', 0, mpmath.mpf(1) / 32, lambda v: 1 + v + v * v * horner(g, v), mpmath.exp) and good
     good = worst('sinh below 1', 0, 1, lambda v: v + v ** 3 * horner(s, v * v), mpmath.sinh) and good
     good = worst('cosh below 1', 0, 1, lambda v: 1 + v * v / 2 + v ** 4 * horner(c, v * v), mpmath.cosh) and good

@@ -7,6 +7,7 @@ the nearest f64; index 0 is never asked for and holds 0. Writes the constant arr
 above one half."""
 import os, sys
 from mpmath import mp, mpf, bernoulli, loggamma, log, pi, frexp, nstr
+from arms import answers
 from f64 import bits, nearest, of_bits
 
 mp.prec = 300
@@ -23,7 +24,7 @@ def true_values():
 # the name on the page of constants, the definition, the array, what an entry is
 TABLES = [
     ('coefficient', 'coefficients', 'COEFFICIENTS', 'B(2k)/(2k(2k-1)) with k = i + 1'),
-    ('whole_value', 'wholeValues', 'WHOLE_VALUES', 'ln((j-1)!), log-gamma at j itself; no argument asks for index 0'),
+    ('whole_value', 'whole_values', 'WHOLE_VALUES', 'ln((j-1)!), log-gamma at j itself; no argument asks for index 0'),
 ]
 LN_2_PI = 0x3FFD67F1C864BEB5
 
@@ -42,35 +43,25 @@ def whole_source(table):
     out = ["// Log-gamma at the whole arguments (DGAMLN's GLN), each number the nearest f64. The array is copied and each arm reads its own entry, so that the compiler",
            '// keeps one constant in memory and one load: a computed index would store all 101 entries first (tools/objects). Written and confirmed by',
            '// tools/tables/gamma_ln.py, with specs/Tables.antt and the proof that the two agree.',
-           'ghost use mathlib.Core.Path.{_≡_};', 'ghost use Prim.Native.Nat.{_<_};', 'ghost use lib.ListN.{getD};', 'ghost use lib.Ieee.{nan};',
-           'ghost use Rattle·gamma_ln_tables·specs.specs.Tables.{wholeValues};']
+           'ghost use Rattle.std.specs.Prelude.{◌≡◌, ◌<◌, get_or};', 'ghost use Rattle.std.specs.Float.{nan};',
+           'ghost use Rattle.gamma_ln_tables.specs.Tables.{whole_values};']
     out += [line.replace('WHOLE_VALUES: ', 'const WHOLE_VALUES: ') for line in array(TABLES[1], table)]
-    out += ['', 'pub fn whole_value(j: u32) -> f64', '    requires { ⌜ j < %d ⌝ }' % len(table), '    ensures { λ r. ⌜ r ≡ getD wholeValues j nan ⌝ }', '{',
+    out += ['', 'pub fn whole_value(j: u32) -> f64', '    requires { j < %d }' % len(table), '    ensures { result ≡ get_or whole_values j nan }', '{',
             '    let values = WHOLE_VALUES;', '    match j {']
     out += ['        %s => values[%d],' % ('_' if j == len(table) - 1 else j, j) for j in range(len(table))]
     return '\n'.join(out + ['    }', '}']) + '\n'
 
 
 def definition(row, table, head):
-    out = head + ['use mathlib.Core.List.{List, [], _∷_}', 'use lib.Ieee.{Float, binary64, ofBits}', '', '-- ' + row[3], 'unfoldable pub %s : List Float' % row[1], '%s =' % row[1]]
-    return '\n'.join(out + ['    ofBits binary64 0x%016X ∷  -- %r' % (bits(x), x) for x in table] + ['    []']) + '\n'
+    out = head + ['use Rattle.std.specs.Prelude.{List, [], ◌∷◌, Float}', 'use Rattle.std.specs.Float.{binary64}', 'use Rattle.std.specs.Float.Ieee.{of_bits}', '', '-- ' + row[3], 'unfoldable pub %s : List Float' % row[1], '%s =' % row[1]]
+    return '\n'.join(out + ['    of_bits binary64 0x%016X ∷  -- %r' % (bits(x), x) for x in table] + ['    []']) + '\n'
 
 
 def proof(size):
-    def numbered(name):
-        return [name] + ['%s-%d' % (name, k) for k in range(2, size + 1)]
-    reads, returns = numbered('array-read-result'), numbered('returns')
-    place = 'Rattle·gamma_ln_tables·proofs.proofs.tables.whole_value'
     out = ['-- `gamma_ln_tables::tables::whole_value` meets its contract at each of %d entries. Written by tools/tables/gamma_ln.py. Assumes nothing.' % size,
-           'use borrow.Author.Needs.{needs}', 'use Rattle·laws.proofs.Arms.{last}', 'use Rattle·gamma_ln_tables·specs.specs.Tables.{wholeValues}',
-           'use %s.Statement.{statement}' % place, 'use %s.Tie as tie' % place]
-    for need in reads:
-        out += ['', '%s : tie.Need-%s' % (need, need), '%s c = search needs' % need]
-    for k, need in enumerate(returns, 1):
-        fact = 'c .match .keys%d' % k if k < size else 'last %d (c .before .args .j) (c .before .pre) (c .match .rest)' % (size - 1)
-        out += ['', '%s : tie.Need-%s' % (need, need), 'unfolding wholeValues', '%s c = rw (%s)' % (need, fact)]
-    out += ['', 'pub whole-value-spec : {M : Type 1} → statement M', 'whole-value-spec =', '    tie.close', '    (tie.spec']
-    return '\n'.join(out + ['    ' + need for need in reads + returns]) + ')\n'
+           'use Rattle.laws.proofs.Arms.{last}', 'use Rattle.gamma_ln_tables.specs.Tables.{whole_values}',
+           'use Rattle.gamma_ln_tables.proofs.tables.whole_value.Goals as goal']
+    return '\n'.join(out + answers('j', size, 'whole_values')) + '\n'
 
 
 def distance(x, true):
@@ -102,7 +93,7 @@ def main():
         ('gamma_ln_tables/src/tables.rt', whole_source(whole)),
         ('gamma_ln_tables/specs/Tables.antt', definition(TABLES[1], whole, ["-- Log-gamma at the whole arguments (DGAMLN's GLN), each number the nearest f64. Written and confirmed by",
                                                                            '-- tools/tables/gamma_ln.py. Definitions only.'])),
-        ('gamma_ln_tables/proofs/tables/whole_value/Proof.antt', proof(len(whole))),
+        ('gamma_ln_tables/proofs/tables/whole_value/Answers.antt', proof(len(whole))),
     ]
     files = [(os.path.join(CRATES, *path.split('/')), text) for path, text in files]
     if '--check' in sys.argv[1:]:

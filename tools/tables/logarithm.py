@@ -7,6 +7,7 @@ Writes src/tables.rt, specs/Tables.antt and the proof that they agree; with --ch
 property named here, the two parts of ln 2, and the polynomial: within 2^-64 of ln(1 + r) - r at 2,001 points of |r| <= 3/512."""
 import os, sys
 from mpmath import mp, mpf, log, log1p, nint, floor
+from arms import answers
 from f64 import bits, nearest, of_bits
 
 mp.prec = 300
@@ -32,8 +33,8 @@ def rows():
 COLUMNS = [
     ('reciprocal', 'reciprocals', 'c, the i/256 nearest to 1 / (1 + j/128)'),
     ('excess', 'excesses', '(1 + j/128)*c - 1, exact'),
-    ('high', 'logarithmsHigh', '-ln c to the nearest multiple of 2^-42'),
-    ('low', 'logarithmsLow', 'the rest of -ln c, nearest'),
+    ('high', 'logarithms_high', '-ln c to the nearest multiple of 2^-42'),
+    ('low', 'logarithms_low', 'the rest of -ln c, nearest'),
 ]
 
 
@@ -41,10 +42,10 @@ def source(tables):
     out = ['// The table of ln: row j is for mantissas near 1 + j/128. It is a match, which the compiler turns into constants in memory: an array',
            '// would be stored anew in each call. Written and confirmed by tools/tables/logarithm.py, with specs/Tables.antt and the proof that they',
            '// agree.',
-           'ghost use mathlib.Core.Path.{_≡_};', 'ghost use Prim.Native.Nat.{_<_};', 'ghost use Rattle·logarithm_tables·specs.specs.Tables.{rowOf};', '', 'pub struct Row {']
+           'ghost use Rattle.std.specs.Prelude.{◌≡◌, ◌<◌};', 'ghost use Rattle.logarithm_tables.specs.Tables.{row_of};', '', '#[derive(Drop)]', 'pub struct Row {']
     for field, _, what in COLUMNS:
         out += ['    // ' + what, '    pub %s: f64,' % field]
-    out += ['}', '', 'pub fn row_of(j: u64) -> Row', '    requires { ⌜ j < %d ⌝ }' % STEPS, '    ensures { λ r. ⌜ r ≡ rowOf j ⌝ }', '{', '    match j {']
+    out += ['}', '', 'pub fn row_of(j: u64) -> Row', '    requires { j < %d }' % STEPS, '    ensures { result ≡ row_of j }', '{', '    match j {']
     for j, row in enumerate(zip(*tables)):
         out.append('        %s => Row {' % ('_' if j == STEPS - 1 else j))
         out += ['            %s: %r,' % (field, x) for (field, _, _), x in zip(COLUMNS, row)]
@@ -54,31 +55,24 @@ def source(tables):
 
 def definitions(tables):
     out = ['-- The tables of ln: row j is for mantissas near 1 + j/128. Written and confirmed by tools/tables/logarithm.py. Definitions only.',
-           'use mathlib.Core.List.{List, [], _∷_}', 'use Prim.Native.Nat.{ℕ}', 'use lib.ListN.{getD}', 'use lib.Ieee.{Float, nan, binary64, ofBits}',
-           'use Rattle·logarithm_tables·specs.specs.declared.tables.Row.{Row}', '']
+           'use Rattle.std.specs.Prelude.{List, [], ◌∷◌, ℕ, get_or, Float}', 'use Rattle.std.specs.Float.{nan, binary64}', 'use Rattle.std.specs.Float.Ieee.{of_bits}',
+           'use Rattle.logarithm_tables.specs.declared.tables.Row.{Row}', '']
     for (_, name, what), table in zip(COLUMNS, tables):
         out += ['-- ' + what, 'unfoldable pub %s : List Float' % name, '%s =' % name]
-        out += ['    ofBits binary64 0x%016X ∷  -- %r' % (bits(x), x) for x in table]
+        out += ['    of_bits binary64 0x%016X ∷  -- %r' % (bits(x), x) for x in table]
         out += ['    []', '']
-    out += ['-- a row as one value', 'unfoldable pub rowOf : ℕ → Row', 'rowOf j = record {']
-    out += ['  %s = getD %s j nan;' % (field, name) for field, name, _ in COLUMNS]
+    out += ['-- a row as one value', 'unfoldable pub row_of : ℕ → Row', 'row_of j = record {']
+    out += ['  %s = get_or %s j nan;' % (field, name) for field, name, _ in COLUMNS]
     return '\n'.join(out + ['}']) + '\n'
 
 
 def proof(tables):
-    columns = ' '.join(name for _, name, _ in COLUMNS)
-    needs = ['returns'] + ['returns-%d' % k for k in range(2, STEPS + 1)]
+    columns, lows = ' '.join(name for _, name, _ in COLUMNS), [min(row) for row in zip(*tables)]
     out = ['-- `logarithm_tables::tables::row_of` meets its contract, at each of its %d rows. Written by tools/tables/logarithm.py. Assumes nothing.' % STEPS,
-           'use lib.Ieee.{ofBits, neg}', 'use Rattle·logarithm_tables·specs.specs.Tables.{%s, rowOf}' % columns.replace(' ', ', '),
-           'use Rattle·laws.proofs.Arms.{last}',
-           'use Rattle·logarithm_tables·proofs.proofs.tables.row_of.Statement.{statement}', 'use Rattle·logarithm_tables·proofs.proofs.tables.row_of.Tie as tie']
-    for k, (need, row) in enumerate(zip(needs, zip(*tables)), 1):
-        # the source has a minus sign where the definition has the sign's bit
-        signs = 'ofBits neg ' if min(row) < 0 else ''
-        fact = 'c .match .keys%d' % k if k < STEPS else 'last %d (c .before .args .j) (c .before .pre) (c .match .rest)' % (STEPS - 1)
-        out += ['', '%s : tie.Need-%s' % (need, need), 'unfolding %srowOf %s' % (signs, columns), '%s c = rw (%s)' % (need, fact)]
-    out += ['', 'pub row-of-spec : {M : Type 1} → statement M', 'row-of-spec =', '    tie.close', '    (tie.spec']
-    return '\n'.join(out + ['    ' + need for need in needs]) + ')\n'
+           'use lib.Ieee.{of_bits, neg}', 'use Rattle.logarithm_tables.specs.Tables.{%s, row_of}' % columns.replace(' ', ', '),
+           'use Rattle.laws.proofs.Arms.{last}', 'use Rattle.logarithm_tables.proofs.tables.row_of.Goals as goal']
+    # the source has a minus sign where the definition has the sign's bit
+    return '\n'.join(out + answers('j', STEPS, lambda k: '%srow_of %s' % ('of_bits neg ' if lows[k] < 0 else '', columns))) + '\n'
 
 
 LN2_HIGH, LN2_LOW = 0x3FE62E42FEFA3800, 0x3D2EF35793C76730
@@ -107,7 +101,7 @@ def main():
     tables = rows()
     check(tables)
     files = [(os.path.join(CRATE, *path.split('/')), text) for path, text in [
-        ('src/tables.rt', source(tables)), ('specs/Tables.antt', definitions(tables)), ('proofs/tables/row_of/Proof.antt', proof(tables))]]
+        ('src/tables.rt', source(tables)), ('specs/Tables.antt', definitions(tables)), ('proofs/tables/row_of/Answers.antt', proof(tables))]]
     if '--check' in sys.argv[1:]:
         for path, text in files:
             assert open(path, encoding='utf-8').read() == text, path

@@ -8,6 +8,8 @@ import sys
 from fractions import Fraction
 from mpmath import mp, mpf, cos, lu_solve, matrix, pi, sqrt
 
+from arms import answers
+
 mp.prec = 400
 PIECES = 128
 HERE = os.path.dirname(os.path.abspath(__file__))
@@ -64,18 +66,17 @@ def source(columns):
     lines = [
         '// The seed\'s 128 quadratics. They are a match, which the compiler turns into constants in memory: an array would be stored anew in each',
         '// call. Written and confirmed by tools/tables/roots.py, with specs/Tables.antt and the proof that they agree.',
-        'ghost use mathlib.Core.Path.{_≡_};',
-        'ghost use Prim.Native.Nat.{_<_};',
-        'ghost use lib.ListN.{getD};',
-        'ghost use lib.Ieee.{nan};',
-        'ghost use Rattle·roots_tables·specs.specs.Tables.{constants, slopes, bends};',
+        'ghost use Rattle.std.specs.Prelude.{◌≡◌, ◌<◌, get_or};',
+        'ghost use Rattle.std.specs.Float.{nan};',
+        'ghost use Rattle.roots_tables.specs.Tables.{constants, slopes, bends};',
         '',
         '// constant + slope * d - bend * d * d, with d the distance from the left end of the piece',
+        '#[derive(Drop)]',
         'pub struct Quadratic {',
     ]
     lines += [f'    pub {field}: f64,' for field, _, _ in NAMES]
-    lines += ['}', '', 'pub fn quadratic_of(i: u64) -> Quadratic', f'    requires {{ ⌜ i < {PIECES} ⌝ }}']
-    lines += ['    ensures { λ r. ⌜ ' + '\n        × '.join(f'(r .{field} ≡ getD {name} i nan)' for field, name, _ in NAMES) + ' ⌝ }', '{', '    match i {']
+    lines += ['}', '', 'pub fn quadratic_of(i: u64) -> Quadratic', f'    requires {{ i < {PIECES} }}']
+    lines += ['    ensures { ' + '\n        × '.join(f'(result.{field} ≡ get_or {name} i nan)' for field, name, _ in NAMES) + ' }', '{', '    match i {']
     for i, row in enumerate(zip(*columns)):
         lines.append(f'        {"_" if i == PIECES - 1 else i} => Quadratic {{')
         lines += [f'            {field}: {value!r},' for (field, _, _), value in zip(NAMES, row)]
@@ -84,37 +85,31 @@ def source(columns):
 
 
 def specification(columns):
-    lines = ['-- The seed\'s 128 quadratics, by the bits of their coefficients; the decimals are in src/tables.rt. Definitions only.', 'use mathlib.Core.List.{List, [], _∷_}', 'use lib.Ieee.{Float, binary64, ofBits}']
+    lines = ['-- The seed\'s 128 quadratics, by the bits of their coefficients; the decimals are in src/tables.rt. Definitions only.', 'use Rattle.std.specs.Prelude.{List, [], ◌∷◌, Float}', 'use Rattle.std.specs.Float.{binary64}', 'use Rattle.std.specs.Float.Ieee.{of_bits}']
     for (_, name, says), column in zip(NAMES, columns):
         lines += ['', '-- ' + says, f'unfoldable pub {name} : List Float', f'{name} =']
-        lines += [f'    ofBits binary64 0x{bits(value):016X} ∷' for value in column]
+        lines += [f'    of_bits binary64 0x{bits(value):016X} ∷' for value in column]
         lines[-1] += ' []'
     return '\n'.join(lines) + '\n'
 
 
 def proof():
     names = [name for _, name, _ in NAMES]
-    needs = ['returns'] + [f'returns-{k}' for k in range(2, PIECES + 1)]
     lines = [
         f'-- `roots_tables::tables::quadratic_of` meets its contract, at each of its {PIECES} pieces. Written by tools/tables/roots.py. Assumes nothing.',
         'use mathlib.Core.Path.{refl}',
-        f'use Rattle·roots_tables·specs.specs.Tables.{{{", ".join(names)}}}',
-        'use Rattle·laws.proofs.Arms.{last}',
-        'use Rattle·roots_tables·proofs.proofs.tables.quadratic_of.Statement.{statement}',
-        'use Rattle·roots_tables·proofs.proofs.tables.quadratic_of.Tie as tie',
+        f'use Rattle.roots_tables.specs.Tables.{{{", ".join(names)}}}',
+        'use Rattle.laws.proofs.Arms.{last}',
+        'use Rattle.roots_tables.proofs.tables.quadratic_of.Goals as goal',
     ]
-    for k, need in enumerate(needs, 1):
-        fact = f'c .match .keys{k}' if k < PIECES else f'last {PIECES - 1} (c .before .args .i) (c .before .pre) (c .match .rest)'
-        lines += ['', f'{need} : tie.Need-{need}', f'unfolding {" ".join(names)}', f'{need} c = rw ({fact}) (refl, refl, refl)']
-    lines += ['', 'pub quadratic-of-spec : {M : Type 1} → statement M', 'quadratic-of-spec =', '    tie.close', '    (tie.spec']
-    return '\n'.join(lines + ['    ' + need for need in needs]) + ')\n'
+    return '\n'.join(lines + answers('i', PIECES, ' '.join(names), ' (refl, refl, refl)')) + '\n'
 
 
 def files(columns):
     return [
         (os.path.join(CRATE, 'src', 'tables.rt'), source(columns)),
         (os.path.join(CRATE, 'specs', 'Tables.antt'), specification(columns)),
-        (os.path.join(CRATE, 'proofs', 'tables', 'quadratic_of', 'Proof.antt'), proof()),
+        (os.path.join(CRATE, 'proofs', 'tables', 'quadratic_of', 'Answers.antt'), proof()),
     ]
 
 

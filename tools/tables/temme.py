@@ -28,9 +28,9 @@ def main():
     true = taylor(lambda x: rgamma(1 + x), 0, 15)[1::2]
     table = [nearest(x) for x in true]
     source = ''.join('    %r,\n' % x for x in table)
-    listed = ''.join('    %sofBits binary64 0x%016X\n' % ('∷ ' if i else '', bits(x)) for i, x in enumerate(table)) + '    ∷ []\n'
+    listed = ''.join('    %sof_bits binary64 0x%016X\n' % ('∷ ' if i else '', bits(x)) for i, x in enumerate(table)) + '    ∷ []\n'
     ok = put('src/difference.rt', r'(const COEFFICIENTS: \[f64; 8\] = \[\n)(?:    [^\n]*,\n)*', source, check)
-    ok = put('specs/Difference.antt', r'(\ndifferenceCoefficients =\n)(?:    [^\n]*\n)*', listed, check) and ok
+    ok = put('specs/Difference.antt', r'(\ndifference_coefficients =\n)(?:    [^\n]*\n)*', listed, check) and ok
     for x, y in zip(true, table):
         off = abs(mpf(y) - x) / mpf(2) ** (frexp(mpf(y))[1] - 53)
         if check:

@@ -1,4 +1,4 @@
-// The C boundary: target/staticlib/libcapi.a. Numbers pass as themselves, records by value. Each export has the whole contract of the routine behind it:
+// The C boundary, which crate capi_c exports. Numbers pass as themselves, records by value. Each function has the whole contract of the routine behind it:
 // its result is that routine's definition, for every argument, not-a-number and infinities included.
 ghost use Rattle.std.specs.Prelude.{◌≡◌, length};
 ghost use Rattle.roots.specs.Sqrt.{sqrt_of};
@@ -18,96 +18,84 @@ ghost use Rattle.frame.specs.Over.{offered};
 ghost use Rattle.sweeping.specs.Sweep.{swept_of, frames_of};
 ghost use Rattle.page.specs.Joining.{join_number, join_page, line_number, line_page};
 ghost use Rattle.capi.specs.Outcome.{outcome_of, is_scaled, answer_of, request_of, sweep_of};
-ghost use Rattle.bessel.specs.I.{iOutcome};
-ghost use Rattle.bessel.specs.K.{kOutcome};
+ghost use Rattle.bessel.specs.I.{i_outcome};
+ghost use Rattle.bessel.specs.K.{k_outcome};
 
 use call::answer;
 use gamma_ln::log_gamma::log_gamma;
 use machine::constants::not_a_number;
 use sweeping::request::Request;
 
-#[unsafe(no_mangle)]
-pub extern "C" fn lichenoar_sqrt(x: f64) -> f64
+pub fn lichenoar_sqrt(x: f64) -> f64
     ensures { result ≡ sqrt_of x }
 {
     roots::sqrt::sqrt(x)
 }
 
-#[unsafe(no_mangle)]
-pub extern "C" fn lichenoar_hypot(x: f64, y: f64) -> f64
+pub fn lichenoar_hypot(x: f64, y: f64) -> f64
     ensures { result ≡ hypot_of x y }
 {
     roots::hypot::hypot(x, y)
 }
 
-#[unsafe(no_mangle)]
-pub extern "C" fn lichenoar_exp(x: f64) -> f64
+pub fn lichenoar_exp(x: f64) -> f64
     ensures { result ≡ exp_of x }
 {
     exponential::exp::exp(x)
 }
 
-#[unsafe(no_mangle)]
-pub extern "C" fn lichenoar_ln(x: f64) -> f64
+pub fn lichenoar_ln(x: f64) -> f64
     ensures { result ≡ ln_of x }
 {
     logarithm::ln::ln(x)
 }
 
-#[unsafe(no_mangle)]
-pub extern "C" fn lichenoar_sin(x: f64) -> f64
+pub fn lichenoar_sin(x: f64) -> f64
     ensures { result ≡ sin_of x }
 {
     circular::sin::sin(x)
 }
 
-#[unsafe(no_mangle)]
-pub extern "C" fn lichenoar_cos(x: f64) -> f64
+pub fn lichenoar_cos(x: f64) -> f64
     ensures { result ≡ cos_of x }
 {
     circular::cos::cos(x)
 }
 
 // The angle of the point (x, y): y comes first, as in atan2.
-#[unsafe(no_mangle)]
-pub extern "C" fn lichenoar_angle(y: f64, x: f64) -> f64
+pub fn lichenoar_angle(y: f64, x: f64) -> f64
     ensures { result ≡ angle_of y x }
 {
     angle::angle::angle(y, x)
 }
 
-#[unsafe(no_mangle)]
-pub extern "C" fn lichenoar_sinh(x: f64) -> f64
+pub fn lichenoar_sinh(x: f64) -> f64
     ensures { result ≡ sinh_of x }
 {
     exponential::sinh::sinh(x)
 }
 
-#[unsafe(no_mangle)]
-pub extern "C" fn lichenoar_cosh(x: f64) -> f64
+pub fn lichenoar_cosh(x: f64) -> f64
     ensures { result ≡ cosh_of x }
 {
     exponential::cosh::cosh(x)
 }
 
 // sin(πx) and cos(πx)
-#[unsafe(no_mangle)]
-pub extern "C" fn lichenoar_sin_pi(x: f64) -> f64
+pub fn lichenoar_sin_pi(x: f64) -> f64
     ensures { result ≡ sin_pi_of x }
 {
     circular::sin_pi::sin_pi(x)
 }
 
-#[unsafe(no_mangle)]
-pub extern "C" fn lichenoar_cos_pi(x: f64) -> f64
+pub fn lichenoar_cos_pi(x: f64) -> f64
     ensures { result ≡ cos_pi_of x }
 {
     circular::cos_pi::cos_pi(x)
 }
 
 // Half away from zero.
-#[unsafe(no_mangle)]
-pub extern "C" fn lichenoar_round(x: f64) -> f64
+pub fn lichenoar_round(x: f64) -> f64
     ensures { result ≡ round_of x }
 {
     rounding::round::round(x)
@@ -121,8 +109,7 @@ pub struct LogGamma {
     pub number: u32,
 }
 
-#[unsafe(no_mangle)]
-pub extern "C" fn lichenoar_log_gamma(x: f64) -> LogGamma
+pub fn lichenoar_log_gamma(x: f64) -> LogGamma
     ensures { result ≡ outcome_of (log_gamma_of x) }
 {
     let outcome = log_gamma(x);
@@ -159,19 +146,17 @@ fn projected(a: answer::Answer) -> Answer
 }
 
 // n orders of I into the 2n lent cells, re before im. scaled: 0 no, any other yes. Refused or not, every cell is written.
-#[unsafe(no_mangle)]
-pub extern "C" fn lichenoar_i(scaled: u8, v: f64, re: f64, im: f64, out: &mut [f64]) -> Answer
-    ensures { (result ≡ answer_of (iOutcome (is_scaled scaled) v re im (length out.old)).answer)
-        × (out.new ≡ (iOutcome (is_scaled scaled) v re im (length out.old)).cells) }
+pub fn lichenoar_i(scaled: u8, v: f64, re: f64, im: f64, out: &mut [f64]) -> Answer
+    ensures { (result ≡ answer_of (i_outcome (is_scaled scaled) v re im (length out.old)).answer)
+        × (out.new ≡ (i_outcome (is_scaled scaled) v re im (length out.old)).cells) }
 {
     projected(bessel::i::i(scaled != 0, v, re, im, out))
 }
 
 // n orders of K into the 2n lent cells, as for I.
-#[unsafe(no_mangle)]
-pub extern "C" fn lichenoar_k(scaled: u8, v: f64, re: f64, im: f64, out: &mut [f64]) -> Answer
-    ensures { (result ≡ answer_of (kOutcome (is_scaled scaled) v re im (length out.old)).answer)
-        × (out.new ≡ (kOutcome (is_scaled scaled) v re im (length out.old)).cells) }
+pub fn lichenoar_k(scaled: u8, v: f64, re: f64, im: f64, out: &mut [f64]) -> Answer
+    ensures { (result ≡ answer_of (k_outcome (is_scaled scaled) v re im (length out.old)).answer)
+        × (out.new ≡ (k_outcome (is_scaled scaled) v re im (length out.old)).cells) }
 {
     projected(bessel::k::k(scaled != 0, v, re, im, out))
 }
@@ -185,8 +170,7 @@ pub struct Sweep {
 }
 
 // The frames of an even sweep, a newline behind each, over the first of the lent bytes. Refused, or without room for all of them, it writes nothing.
-#[unsafe(no_mangle)]
-pub extern "C" fn lichenoar_sweep(
+pub fn lichenoar_sweep(
     kind: u8,
     scaling: u8,
     n: u32,
@@ -223,8 +207,7 @@ pub extern "C" fn lichenoar_sweep(
 
 // A page lies as 58 numbers, one behind the other, at the places of crate page's layout.rt: programs in other languages declare it as a record of them. A
 // page of zeros is the empty one. An answer line, without its newline, is counted; the answer is 0, or 15 with the page as it was.
-#[unsafe(no_mangle)]
-pub extern "C" fn lichenoar_page_line(page: &mut [u64; 58], line: &[u8]) -> u32
+pub fn lichenoar_page_line(page: &mut [u64; 58], line: &[u8]) -> u32
     ensures { (result ≡ line_number page.old line.now)
         × (page.new ≡ line_page page.old line.now) }
 {
@@ -232,8 +215,7 @@ pub extern "C" fn lichenoar_page_line(page: &mut [u64; 58], line: &[u8]) -> u32
 }
 
 // One page added to another, which is another one: 0, or 15 with both as they were.
-#[unsafe(no_mangle)]
-pub extern "C" fn lichenoar_page_join(into: &mut [u64; 58], from: &[u64; 58]) -> u32
+pub fn lichenoar_page_join(into: &mut [u64; 58], from: &[u64; 58]) -> u32
     ensures { (result ≡ join_number into.old from.now)
         × (into.new ≡ join_page into.old from.now) }
 {

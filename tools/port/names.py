@@ -10,7 +10,7 @@ import os
 import re
 import sys
 
-WORD = re.compile(r"(?<![A-Za-z0-9_'])[a-z_][A-Za-z0-9_]*[a-z0-9][A-Z][A-Za-z0-9_]*")
+WORD = re.compile(r"(?<![A-Za-z0-9_'])(?=[a-z_])[A-Za-z0-9_]*?[a-z0-9][A-Z][A-Za-z0-9_]*")
 
 
 def snake(word):

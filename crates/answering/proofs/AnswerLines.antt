@@ -23,7 +23,7 @@ use Rattle.frame.proofs.WriteFacts.{record-length, line_refused, line-digits, li
 use Rattle.bessel.specs.Outcome.{refused_outcome}
 use Rattle.bessel.specs.K.{counts_answer}
 use Rattle.bessel.specs.Series.{visit_answer}
-use Rattle.bessel.specs.I.{iOutcome}
+use Rattle.bessel.specs.I.{i_outcome}
 use Rattle.bessel.proofs.KernelOutcome as kernel
 use Rattle.bessel.proofs.SeriesOutcome as series
 use Rattle.answering.specs.Called.{called_as, called_of, outcome_line}
@@ -40,7 +40,7 @@ pairs-length line a e h = ap length (asked-line line a e) ∙ answered-length a 
 
 -- ---- every number fits one byte
 pub called-number : (kind : Kind) (a : Asking) (n : ℕ) → (called_as kind a n).answer.number < 256
-unfolding called_as iOutcome counts_answer visit_answer answered_of
+unfolding called_as i_outcome counts_answer visit_answer answered_of
 called-number K a n =
     elim (kernel.whole a.scaled a.v a.re a.im n) [
       | inl r ↦ omega (arith, r.number, one_byte r.refusal)

@@ -31,11 +31,11 @@ use Rattle.frame.specs.Writing.{twos_complement, spelled_record, record_of, cell
 use Rattle.frame.proofs.AskingFacts.{other_length}
 use Rattle.bessel.specs.declared.arguments.Arguments.{Arguments}
 use Rattle.bessel.specs.Arguments.{arguments_of}
-use Rattle.bessel.specs.Checks.{argument_checks, k_own_checks, kChecks, series_own_checks, series_checks}
+use Rattle.bessel.specs.Checks.{argument_checks, k_own_checks, k_checks, series_own_checks, series_checks}
 use Rattle.bessel.specs.Outcome.{Outcome, refused_outcome, judged_if, judged_of, concluded_of, outcome_by, call_outcome}
 use Rattle.bessel.specs.Series.{visited_by, visit_answer, visit_steps, series_outcome}
-use Rattle.bessel.specs.I.{iOutcome}
-use Rattle.bessel.specs.K.{kSteps, kOutcome}
+use Rattle.bessel.specs.I.{i_outcome}
+use Rattle.bessel.specs.K.{k_steps, k_outcome}
 use Rattle.answering.specs.Called.{called_as, called_of, outcome_line}
 use Rattle.answering.specs.Line.{answer_line_of}
 use Rattle.answering.proofs.LengthRefused.{refused-line}
@@ -60,8 +60,8 @@ series-admitted : verdict_of (series_checks origin 4) ≡ Admitted
 unfolding verdict_of verdict_from refused_if series_checks series_own_checks argument_checks length_checks finite_checks limit_checks length_inside are_finite order_inside sign_inside part_inside size_inside beyond_series order_plus_one order_at of_bits of_int round size neg add mul eq le lt
 series-admitted = refl
 
-k-refused : verdict_of (kChecks origin 2) ≡ Refused refusals.Zero
-unfolding verdict_of verdict_from refused_if kChecks k_own_checks argument_checks length_checks finite_checks limit_checks length_inside are_finite order_inside sign_inside part_inside size_inside is_zero of_bits neg eq le lt
+k-refused : verdict_of (k_checks origin 2) ≡ Refused refusals.Zero
+unfolding verdict_of verdict_from refused_if k_checks k_own_checks argument_checks length_checks finite_checks limit_checks length_inside are_finite order_inside sign_inside part_inside size_inside is_zero of_bits neg eq le lt
 k-refused = refl
 
 -- ---- 02 00 0002 and zeros: I of 0, two entries, 1 and 0
@@ -83,7 +83,7 @@ unfolding concluded_of visit_steps visited_by visit_answer judged_of judged_if a
 visited = refl
 
 first-called : called_of asking 4 ≡ one-and-nought
-unfolding called_of called_as iOutcome series_outcome call_outcome outcome_by
+unfolding called_of called_as i_outcome series_outcome call_outcome outcome_by
 first-called =
     ap (λ (a : Arguments). call_outcome (series_checks a 4) 4 (visit_steps (visited_by false false a 4))) prepared
     ∙ ap (λ (v : Verdict). outcome_by v 4 (visit_steps (visited_by false false origin 4))) series-admitted
@@ -108,9 +108,9 @@ unfolding parsed_of framed_of asked_in are_digits is_digit worth_of fields_of nu
 second-parsed = refl
 
 second-called : called_of asking-k 2 ≡ refused_outcome refusals.Zero 2
-unfolding called_of called_as kOutcome call_outcome outcome_by
+unfolding called_of called_as k_outcome call_outcome outcome_by
 second-called =
-    ap (λ (a : Arguments). call_outcome (kChecks a 2) 2 (kSteps false a 2)) prepared ∙ ap (λ (v : Verdict). outcome_by v 2 (kSteps false origin 2)) k-refused
+    ap (λ (a : Arguments). call_outcome (k_checks a 2) 2 (k_steps false a 2)) prepared ∙ ap (λ (v : Verdict). outcome_by v 2 (k_steps false origin 2)) k-refused
 
 pub second-answer : answer_line_of second ≡ 48 ∷ 52 ∷ noughts 16
 unfolding record_of spelled_record refused_of twos_complement spelled_of digit_of

@@ -24,7 +24,7 @@ use Rattle.frame.specs.Reading.{FitsWord, RecordFits, said_of, reading_of}
 use Rattle.frame.proofs.AnswerInverse.{answered-read, refused-read}
 use Rattle.bessel.specs.Arguments.{arguments_of}
 use Rattle.bessel.specs.Outcome.{Outcome, refused_outcome}
-use Rattle.bessel.specs.I.{iOutcome}
+use Rattle.bessel.specs.I.{i_outcome}
 use Rattle.bessel.proofs.CallFacts.{refused-facts}
 use Rattle.bessel.proofs.CheckFacts.{k-passed, series-passed}
 use Rattle.bessel.proofs.CountBounds.{Bounded, refused-bounded, k-bounded, series-bounded}
@@ -55,17 +55,17 @@ fits-if o n b number answered refused =
     }
 
 pub called-bounded : (kind : Kind) (a : Asking) (n : ℕ) → Bounded (called_as kind a n)
-unfolding called_as iOutcome
+unfolding called_as i_outcome
 called-bounded K a n = k-bounded a.scaled a.v a.re a.im n
 called-bounded I a n = series-bounded a.scaled false a.v a.re a.im n
 
 called-cells : (kind : Kind) (a : Asking) → length (called_as kind a (a.count * 2)).cells ≡ a.count * 2
-unfolding called_as iOutcome
+unfolding called_as i_outcome
 called-cells K a = kernel.cells-length a.scaled a.v a.re a.im (a.count * 2)
 called-cells I a = series.cells-length a.scaled false a.v a.re a.im (a.count * 2)
 
 called-lent : (kind : Kind) (a : Asking) → (called_as kind a (a.count * 2)).answer.number ≡ 0 → Lent (a.count * 2)
-unfolding called_as iOutcome
+unfolding called_as i_outcome
 called-lent K a z =
     let n = a.count * 2 in
     lent n (k-passed (arguments_of a.v a.re a.im) n (kernel.answered-whole a.scaled a.v a.re a.im n z).passed).lent

@@ -22,11 +22,11 @@ use Rattle.frame.specs.declared.asking.Asking.{Asking}
 use Rattle.frame.specs.Writing.{record_of}
 use Rattle.frame.proofs.WriteFacts.{line_refused}
 use Rattle.bessel.specs.Arguments.{arguments_of}
-use Rattle.bessel.specs.Checks.{argument_checks, kChecks, series_checks}
+use Rattle.bessel.specs.Checks.{argument_checks, k_checks, series_checks}
 use Rattle.bessel.specs.Outcome.{Steps, refused_outcome, outcome_by, call_outcome}
 use Rattle.bessel.specs.Series.{visited_by, visit_steps, series_outcome}
-use Rattle.bessel.specs.I.{iOutcome}
-use Rattle.bessel.specs.K.{kSteps, kOutcome}
+use Rattle.bessel.specs.I.{i_outcome}
+use Rattle.bessel.specs.K.{k_steps, k_outcome}
 use Rattle.answering.specs.Called.{called_as, called_of, outcome_line}
 
 pub refused-line : (r : Refusal) (length : ℕ) → outcome_line (refused_outcome r length) ≡ record_of (refused_of r)
@@ -44,8 +44,8 @@ module _ (length : ℕ) (later : List Check) (steps : Steps) where
   refused-first e = ap (λ (v : Verdict). outcome_by v length steps) (by_length length later e)
 
 called : (kind : Kind) (a : Asking) (length : ℕ) → length_inside length ≡ false → called_as kind a length ≡ refused_outcome Length length
-unfolding called_as kOutcome iOutcome series_outcome kChecks series_checks argument_checks length_checks
-called K a length e = refused-first length _ (kSteps a.scaled (arguments_of a.v a.re a.im) length) e
+unfolding called_as k_outcome i_outcome series_outcome k_checks series_checks argument_checks length_checks
+called K a length e = refused-first length _ (k_steps a.scaled (arguments_of a.v a.re a.im) length) e
 called I a length e = refused-first length _ (visit_steps (visited_by a.scaled false (arguments_of a.v a.re a.im) length)) e
 
 pub length-called : (a : Asking) (length : ℕ) → length_inside length ≡ false → called_of a length ≡ refused_outcome Length length

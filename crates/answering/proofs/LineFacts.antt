@@ -28,7 +28,7 @@ use Rattle.frame.proofs.AskingFacts.{parsed-kept}
 use Rattle.frame.proofs.OverFacts.{offered-room}
 use Rattle.frame.proofs.WriteFacts.{record-length, line-length, line-most}
 use Rattle.bessel.specs.Outcome.{Outcome}
-use Rattle.bessel.specs.I.{iOutcome}
+use Rattle.bessel.specs.I.{i_outcome}
 use Rattle.bessel.proofs.KernelOutcome as kernel
 use Rattle.bessel.proofs.SeriesOutcome as series
 use Rattle.answering.specs.Called.{called_as, called_of, outcome_line, called_line}
@@ -58,7 +58,7 @@ unfolding outcome_line
 outcome-length o = line-most o.answer o.cells
 
 called-as-cells : (kind : Kind) (a : Asking) (n : ℕ) → length (called_as kind a n).cells ≡ n
-unfolding called_as iOutcome
+unfolding called_as i_outcome
 called-as-cells K a n = kernel.cells-length a.scaled a.v a.re a.im n
 called-as-cells I a n = series.cells-length a.scaled false a.v a.re a.im n
 

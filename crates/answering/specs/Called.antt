@@ -5,13 +5,13 @@ use Rattle.call.specs.declared.kind.Kind.TheVariants.{K, I}
 use Rattle.frame.specs.declared.asking.Asking.{Asking}
 use Rattle.frame.specs.Writing.{line_of}
 use Rattle.bessel.specs.Outcome.{Outcome}
-use Rattle.bessel.specs.I.{iOutcome}
-use Rattle.bessel.specs.K.{kOutcome}
+use Rattle.bessel.specs.I.{i_outcome}
+use Rattle.bessel.specs.K.{k_outcome}
 
 -- into so many cells
 unfoldable pub called_as : Kind → Asking → ℕ → Outcome
-called_as K a length = kOutcome a.scaled a.v a.re a.im length
-called_as I a length = iOutcome a.scaled a.v a.re a.im length
+called_as K a length = k_outcome a.scaled a.v a.re a.im length
+called_as I a length = i_outcome a.scaled a.v a.re a.im length
 
 unfoldable pub called_of : Asking → ℕ → Outcome
 called_of a length = called_as a.kind a length

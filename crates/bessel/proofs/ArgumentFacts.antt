@@ -21,7 +21,7 @@ use Rattle.power_series.proofs.VisitBound.{order-limit}
 use Rattle.right_half_plane.proofs.ModulusBound.{modulus-up}
 use Rattle.bessel.specs.declared.arguments.Arguments.{Arguments}
 use Rattle.bessel.specs.Arguments.{arguments_of}
-use Rattle.bessel.specs.Checks.{kChecks, series_checks}
+use Rattle.bessel.specs.Checks.{k_checks, series_checks}
 use Rattle.bessel.proofs.CheckFacts.{Passed, k-passed, series-passed}
 
 -- ---- a value without -0
@@ -104,15 +104,15 @@ modulus-own v re im = refl
 
 -- ---- what the kernels ask of an admitted call
 pub k-ready :
-    (v re im : Float) (a : Arguments) (length : ℕ) → a ≡ arguments_of v re im → verdict_of (kChecks a length) ≡ Admitted →
+    (v re im : Float) (a : Arguments) (length : ℕ) → a ≡ arguments_of v re im → verdict_of (k_checks a length) ≡ Admitted →
     (length_inside length ≡ true) × T (nonnegative a.order) × T (le a.order largest_order) × (a.modulus ≡ modulus_of a.z)
 k-ready v re im a length e h =
-    subst (λ (b : Arguments). (length_inside length ≡ true) × T (nonnegative b.order) × T (le b.order largest_order) × (b.modulus ≡ modulus_of b.z)) (sym e) (own (subst (λ (b : Arguments). verdict_of (kChecks b length) ≡ Admitted) e h))
+    subst (λ (b : Arguments). (length_inside length ≡ true) × T (nonnegative b.order) × T (le b.order largest_order) × (b.modulus ≡ modulus_of b.z)) (sym e) (own (subst (λ (b : Arguments). verdict_of (k_checks b length) ≡ Admitted) e h))
   where
-    own : let b = arguments_of v re im in verdict_of (kChecks b length) ≡ Admitted → (length_inside length ≡ true) × T (nonnegative b.order) × T (le b.order largest_order) × (b.modulus ≡ modulus_of b.z)
+    own : let b = arguments_of v re im in verdict_of (k_checks b length) ≡ Admitted → (length_inside length ≡ true) × T (nonnegative b.order) × T (le b.order largest_order) × (b.modulus ≡ modulus_of b.z)
     own h =
         let b = arguments_of v re im in
-        let p = k-passed b length (admitted-none (kChecks b length) h) in
+        let p = k-passed b length (admitted-none (k_checks b length) h) in
         let o = order-limits v re im length p in
         (p.lent, o.0, o.1, modulus-own v re im)
 

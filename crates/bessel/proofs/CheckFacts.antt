@@ -11,7 +11,7 @@ use Rattle.call.proofs.FirstFacts.{none_left, none_right, admitted-none}
 use Rattle.call.proofs.LimitFacts.{Lent, lent, Inside, length-passed, finite-passed, limits-passed}
 use Rattle.power_series.specs.Series.{beyond_series}
 use Rattle.bessel.specs.declared.arguments.Arguments.{Arguments}
-use Rattle.bessel.specs.Checks.{argument_checks, k_own_checks, kChecks, series_own_checks, series_checks}
+use Rattle.bessel.specs.Checks.{argument_checks, k_own_checks, k_checks, series_own_checks, series_checks}
 
 pub record Passed (a : Arguments) (length : ℕ) : Type 0 where
   pub lent : length_inside length ≡ true
@@ -36,8 +36,8 @@ module _ (a : Arguments) (length : ℕ) where
   pub arguments-lent : verdict_of (argument_checks a length) ≡ Admitted → Lent length
   arguments-lent h = lent length (arguments-passed (admitted-none (argument_checks a length) h)).lent
 
-  pub k-passed : none_applies (kChecks a length) ≡ true → Passed a length
-  unfolding kChecks
+  pub k-passed : none_applies (k_checks a length) ≡ true → Passed a length
+  unfolding k_checks
   k-passed p = arguments-passed (none_left (argument_checks a length) (k_own_checks a) p)
 
   last-passed : (b : Bool) → (not b && true) ≡ true → b ≡ false

@@ -14,7 +14,7 @@ use Rattle.right_half_plane.proofs.OrderFacts.{order-cast}
 use Rattle.bessel.specs.Arguments.{arguments_of}
 use Rattle.bessel.specs.Outcome.{Outcome}
 use Rattle.bessel.specs.Series.{visit_answer, visited_by, series_outcome}
-use Rattle.bessel.specs.K.{counts_answer, kOutcome}
+use Rattle.bessel.specs.K.{counts_answer, k_outcome}
 use Rattle.bessel.proofs.CallFacts.{RefusedWhole}
 use Rattle.bessel.proofs.CheckFacts.{k-passed, series-passed}
 use Rattle.bessel.proofs.ArgumentFacts.{order-limits}
@@ -37,11 +37,11 @@ refused-bounded length o r =
     record { zeros = omega arith; longest-sum = omega arith; rungs = omega arith; backward = omega arith }
 
 module _ (scaled : Bool) (v re im : Float) (length : ℕ) where
-  counts-number : kernel.AnsweredWhole scaled (arguments_of v re im) length (kOutcome scaled v re im length) → (kOutcome scaled v re im length).answer.number ≡ 0
+  counts-number : kernel.AnsweredWhole scaled (arguments_of v re im) length (k_outcome scaled v re im length) → (k_outcome scaled v re im length).answer.number ≡ 0
   unfolding counts_answer answered_of
   counts-number w = ap (λ (x : Answer). x.number) w.answer
 
-  k-answered : kernel.AnsweredWhole scaled (arguments_of v re im) length (kOutcome scaled v re im length) → Bounded (kOutcome scaled v re im length)
+  k-answered : kernel.AnsweredWhole scaled (arguments_of v re im) length (k_outcome scaled v re im length) → Bounded (k_outcome scaled v re im length)
   k-answered w =
       let a = arguments_of v re im in
       let p = k-passed a length w.passed in
@@ -50,16 +50,16 @@ module _ (scaled : Bool) (v re im : Float) (length : ℕ) where
       let c = kernel.answered-counts scaled v re im length (counts-number w) in
       let t = kernel.answered-terms scaled v re im length (counts-number w) in
       let n : nearest_order a.order ≤ 1000 = (order-cast a.order o.0 o.1).1 in
-      let z : nat_abs (kOutcome scaled v re im length).answer.zeros ≡ c.count = ap nat_abs c.zeros in
+      let z : nat_abs (k_outcome scaled v re im length).answer.zeros ≡ c.count = ap nat_abs c.zeros in
       let few : c.count ≤ length / 2 = c.few in
       let most : length ≤ 1024 = l.most in
-      let r : (kOutcome scaled v re im length).answer.rungs ≡ nearest_order a.order + length / 2 - 2 = c.rungs in
+      let r : (k_outcome scaled v re im length).answer.rungs ≡ nearest_order a.order + length / 2 - 2 = c.rungs in
       record { zeros = omega arith; longest-sum = omega arith; rungs = omega arith; backward = c.backward }
 
-  pub k-bounded : Bounded (kOutcome scaled v re im length)
+  pub k-bounded : Bounded (k_outcome scaled v re im length)
   k-bounded =
       elim (kernel.whole scaled v re im length) [
-        | inl r ↦ refused-bounded length (kOutcome scaled v re im length) r
+        | inl r ↦ refused-bounded length (k_outcome scaled v re im length) r
         | inr w ↦ k-answered w
       ]
 

@@ -31,9 +31,9 @@ use Rattle.right_half_plane.specs.Refusals.{start_refused, climb_refused}
 use Rattle.right_half_plane.proofs.RefusalFacts.{refuses, start-exactly, climb-exactly}
 use Rattle.bessel.specs.declared.arguments.Arguments.{Arguments}
 use Rattle.bessel.specs.Arguments.{arguments_of}
-use Rattle.bessel.specs.Checks.{argument_checks, k_own_checks, kChecks}
+use Rattle.bessel.specs.Checks.{argument_checks, k_own_checks, k_checks}
 use Rattle.bessel.specs.Outcome.{Outcome, Delivered, refused_outcome, judged_of, concluded_of}
-use Rattle.bessel.specs.K.{kernel_by, counts_answer, kernel_steps, kSteps, kOutcome, ground_by, kernel_checks, all_k_checks}
+use Rattle.bessel.specs.K.{kernel_by, counts_answer, kernel_steps, k_steps, k_outcome, ground_by, kernel_checks, all_k_checks}
 use Rattle.bessel.proofs.CheckFacts.{k-passed}
 use Rattle.bessel.proofs.CallFacts.{judged-number, RefusedWhole, refused-facts, Ended, refused, answered, ends, numbered}
 
@@ -68,12 +68,12 @@ later-by length o cells b c p q (by-climb e) = rw (p, q, e)
 
 -- the numbers that K can give besides 0, in the order of the checks
 pub listed : (scaled : Bool) (a : Arguments) (length : ℕ) → numbers_of (all_k_checks scaled a length) ≡ 1 ∷ 2 ∷ 3 ∷ 11 ∷ 12 ∷ 4 ∷ 6 ∷ 7 ∷ 8 ∷ []
-unfolding numbers_of all_k_checks kChecks k_own_checks argument_checks length_checks finite_checks limit_checks kernel_checks
+unfolding numbers_of all_k_checks k_checks k_own_checks argument_checks length_checks finite_checks limit_checks kernel_checks
 listed scaled a length = refl
 
 -- an answer: the checks are passed, and the record and the cells are the kernel's
 pub record AnsweredWhole (scaled : Bool) (a : Arguments) (length : ℕ) (o : Outcome) : Type 0 where
-  pub passed : none_applies (kChecks a length) ≡ true
+  pub passed : none_applies (k_checks a length) ≡ true
   pub counts : Counts
   pub kernel : (kernel_by scaled a length).ending ≡ ended.Answered counts
   pub finite : all_finite (kernel_by scaled a length).cells ≡ true
@@ -108,32 +108,32 @@ delivery (ended.Refused r) l answer from cells e = absurd (let z : ◌≡◌ {A 
 
 module _ (scaled : Bool) (v re im : Float) (length : ℕ) where
   -- the number, exactly when, and no other than the list's
-  pub numbers : Given (all_k_checks scaled (arguments_of v re im) length) (kOutcome scaled v re im length).answer.number
-  unfolding all_k_checks kernel_checks ground_by kernel_by kOutcome kSteps
+  pub numbers : Given (all_k_checks scaled (arguments_of v re im) length) (k_outcome scaled v re im length).answer.number
+  unfolding all_k_checks kernel_checks ground_by kernel_by k_outcome k_steps
   numbers =
       let a = arguments_of v re im in
       let k = kernel_by scaled a length in
       let g = ground_by a length in
-      numbered (kChecks a length) (kernel_checks scaled a length) length (kernel_steps k.ending k.cells)
+      numbered (k_checks a length) (kernel_checks scaled a length) length (kernel_steps k.ending k.cells)
       (later-by length k.ending k.cells (start_refused g) (climb_refused g scaled)
       (start-exactly scaled a.order a.z a.modulus (length / 2)) (climb-exactly scaled a.order a.z a.modulus (length / 2)) (kernel-ends scaled a length))
 
   -- so no number but these
-  pub admitted : T (is_one_of (kOutcome scaled v re im length).answer.number (0 ∷ 1 ∷ 2 ∷ 3 ∷ 11 ∷ 12 ∷ 4 ∷ 6 ∷ 7 ∷ 8 ∷ []))
+  pub admitted : T (is_one_of (k_outcome scaled v re im length).answer.number (0 ∷ 1 ∷ 2 ∷ 3 ∷ 11 ∷ 12 ∷ 4 ∷ 6 ∷ 7 ∷ 8 ∷ []))
   admitted =
       let a = arguments_of v re im in
-      none-or-listed (all_k_checks scaled a length) (kOutcome scaled v re im length).answer.number (1 ∷ 2 ∷ 3 ∷ 11 ∷ 12 ∷ 4 ∷ 6 ∷ 7 ∷ 8 ∷ []) numbers (listed scaled a length)
+      none-or-listed (all_k_checks scaled a length) (k_outcome scaled v re im length).answer.number (1 ∷ 2 ∷ 3 ∷ 11 ∷ 12 ∷ 4 ∷ 6 ∷ 7 ∷ 8 ∷ []) numbers (listed scaled a length)
 
   -- 3, 11 and 12 by the limit that was hit
-  pub limits : let a = arguments_of v re im in HitsLimit length a.order a.z.re a.z.im (kOutcome scaled v re im length).answer.number
-  unfolding all_k_checks kChecks k_own_checks argument_checks kernel_checks length_checks finite_checks limit_checks numbers_of
+  pub limits : let a = arguments_of v re im in HitsLimit length a.order a.z.re a.z.im (k_outcome scaled v re im length).answer.number
+  unfolding all_k_checks k_checks k_own_checks argument_checks kernel_checks length_checks finite_checks limit_checks numbers_of
   limits =
       let a = arguments_of v re im in
-      hits-limit length a.order a.z.re a.z.im (k_own_checks a ++ kernel_checks scaled a length) (kOutcome scaled v re im length).answer.number numbers refl refl refl
+      hits-limit length a.order a.z.re a.z.im (k_own_checks a ++ kernel_checks scaled a length) (k_outcome scaled v re im length).answer.number numbers refl refl refl
 
-  whole_by : let a = arguments_of v re im in Ended (kChecks a length) length (kSteps scaled a length) →
-      RefusedWhole length (kOutcome scaled v re im length) ⊎ AnsweredWhole scaled (arguments_of v re im) length (kOutcome scaled v re im length)
-  unfolding kOutcome kSteps
+  whole_by : let a = arguments_of v re im in Ended (k_checks a length) length (k_steps scaled a length) →
+      RefusedWhole length (k_outcome scaled v re im length) ⊎ AnsweredWhole scaled (arguments_of v re im) length (k_outcome scaled v re im length)
+  unfolding k_outcome k_steps
   whole_by (refused r e) = inl (subst (RefusedWhole length) (sym e) (refused-facts length r))
   whole_by (answered answer from cells p s f e) =
       let k = kernel_by scaled (arguments_of v re im) length in
@@ -148,29 +148,29 @@ module _ (scaled : Bool) (v re im : Float) (length : ℕ) where
       })
 
   -- every call is the one or the other, and its number says which
-  pub whole : RefusedWhole length (kOutcome scaled v re im length) ⊎ AnsweredWhole scaled (arguments_of v re im) length (kOutcome scaled v re im length)
-  whole = let a = arguments_of v re im in whole_by (ends (kChecks a length) length (kSteps scaled a length))
+  pub whole : RefusedWhole length (k_outcome scaled v re im length) ⊎ AnsweredWhole scaled (arguments_of v re im) length (k_outcome scaled v re im length)
+  whole = let a = arguments_of v re im in whole_by (ends (k_checks a length) length (k_steps scaled a length))
 
-  pub refused-whole : 0 < (kOutcome scaled v re im length).answer.number → RefusedWhole length (kOutcome scaled v re im length)
+  pub refused-whole : 0 < (k_outcome scaled v re im length).answer.number → RefusedWhole length (k_outcome scaled v re im length)
   refused-whole h =
       elim whole [
         | inl r ↦ r
-        | inr a ↦ absurd (let z : (kOutcome scaled v re im length).answer.number ≡ 0 = ap (λ (x : Answer). x.number) a.answer ∙ counts-number a.counts in omega arith)
+        | inr a ↦ absurd (let z : (k_outcome scaled v re im length).answer.number ≡ 0 = ap (λ (x : Answer). x.number) a.answer ∙ counts-number a.counts in omega arith)
       ]
 
-  pub answered-whole : (kOutcome scaled v re im length).answer.number ≡ 0 → AnsweredWhole scaled (arguments_of v re im) length (kOutcome scaled v re im length)
+  pub answered-whole : (k_outcome scaled v re im length).answer.number ≡ 0 → AnsweredWhole scaled (arguments_of v re im) length (k_outcome scaled v re im length)
   answered-whole h =
       elim whole [
         | inl r ↦ absurd (let p = never-zero r.refusal in let q = r.number in omega arith)
         | inr a ↦ a
       ]
 
-  delivered : (w : AnsweredWhole scaled (arguments_of v re im) length (kOutcome scaled v re im length)) → Delivers (length / 2) (ended.Answered w.counts) (kernel_by scaled (arguments_of v re im) length).cells
+  delivered : (w : AnsweredWhole scaled (arguments_of v re im) length (k_outcome scaled v re im length)) → Delivers (length / 2) (ended.Answered w.counts) (kernel_by scaled (arguments_of v re im) length).cells
   unfolding kernel_by
   delivered w = let a = arguments_of v re im in subst (λ (o : kernels.Ending). Delivers (length / 2) o (kernel_by scaled a length).cells) w.kernel (kernel-delivers scaled a.order a.z a.modulus (length / 2))
 
   -- an outcome has a value for each lent cell
-  pub cells-length : length-of (kOutcome scaled v re im length).cells ≡ length
+  pub cells-length : length-of (k_outcome scaled v re im length).cells ≡ length
   cells-length =
       elim whole [
         | inl r ↦ ap length-of r.cells ∙ length-replicate length not_a_number
@@ -180,7 +180,7 @@ module _ (scaled : Bool) (v re im : Float) (length : ℕ) where
       ]
 
   -- r + n - 2 rungs in every answered call, which is none for r = 0 and n = 1
-  pub answered-counts : (kOutcome scaled v re im length).answer.number ≡ 0 → Counted scaled (arguments_of v re im) length (kOutcome scaled v re im length)
+  pub answered-counts : (k_outcome scaled v re im length).answer.number ≡ 0 → Counted scaled (arguments_of v re im) length (k_outcome scaled v re im length)
   unfolding kernel_by counts_answer answered_of
   answered-counts h =
       let a = arguments_of v re im in
@@ -199,7 +199,7 @@ module _ (scaled : Bool) (v re im : Float) (length : ℕ) where
       }
 
   -- Temme's sum has met its own test by the term 18
-  pub answered-terms : (kOutcome scaled v re im length).answer.number ≡ 0 → (kOutcome scaled v re im length).answer.longest_sum ≤ 18
+  pub answered-terms : (k_outcome scaled v re im length).answer.number ≡ 0 → (k_outcome scaled v re im length).answer.longest_sum ≤ 18
   answered-terms h =
       let a = arguments_of v re im in
       subst (λ (n : ℕ). n ≤ 18) (sym (answered-counts h).terms) (kernel-terms scaled a.order a.z a.modulus (length / 2))

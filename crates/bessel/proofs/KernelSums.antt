@@ -12,7 +12,7 @@ use Rattle.right_half_plane.proofs.SumsEnd.{NearEnds, near-ends, far_none}
 use Rattle.bessel.specs.declared.arguments.Arguments.{Arguments}
 use Rattle.bessel.specs.Arguments.{arguments_of}
 use Rattle.bessel.specs.Outcome.{Outcome}
-use Rattle.bessel.specs.K.{ground_by, kOutcome}
+use Rattle.bessel.specs.K.{ground_by, k_outcome}
 use Rattle.bessel.proofs.CheckFacts.{k-passed}
 use Rattle.bessel.proofs.ArgumentFacts.{normalised-fits, order-limits}
 use Rattle.bessel.proofs.KernelOutcome.{answered-whole, answered-counts}
@@ -39,7 +39,7 @@ module _ (scaled : Bool) (v re im : Float) (length : ℕ) (F : T (fits binary64 
   unfolding arguments_of
   order-fits = normalised-fits v F
 
-  pub answered-sums-end : (kOutcome scaled v re im length).answer.number ≡ 0 → Sums scaled (arguments_of v re im) length (kOutcome scaled v re im length)
+  pub answered-sums-end : (k_outcome scaled v re im length).answer.number ≡ 0 → Sums scaled (arguments_of v re im) length (k_outcome scaled v re im length)
   unfolding ground_by
   answered-sums-end h =
       let a = arguments_of v re im in

@@ -14,7 +14,7 @@ use Rattle.right_half_plane.proofs.OffHalf.{distance-not-zero}
 use Rattle.right_half_plane.proofs.RotationOffHalf.{rotation-not-zero}
 use Rattle.bessel.specs.declared.arguments.Arguments.{Arguments}
 use Rattle.bessel.specs.Arguments.{arguments_of}
-use Rattle.bessel.specs.Checks.{kChecks}
+use Rattle.bessel.specs.Checks.{k_checks}
 use Rattle.bessel.specs.K.{ground_by}
 use Rattle.bessel.proofs.CheckFacts.{k-passed}
 use Rattle.bessel.proofs.ArgumentFacts.{normalised-fits, order-limits}
@@ -25,7 +25,7 @@ pub record NeitherZero (a : Arguments) (length : ℕ) : Type 0 where
   pub distance : let g = ground_by a length in eq (order_of g.fraction g.square).distance nothing ≡ false
 
 pub off-half :
-    (v re im : Float) (length : ℕ) → T (fits binary64 v) → none_applies (kChecks (arguments_of v re im) length) ≡ true →
+    (v re im : Float) (length : ℕ) → T (fits binary64 v) → none_applies (k_checks (arguments_of v re im) length) ≡ true →
     is_half (ground_by (arguments_of v re im) length).fraction ≡ false → NeitherZero (arguments_of v re im) length
 unfolding ground_by ground_of order_of arguments_of
 off-half v re im length F n e =

@@ -8,10 +8,10 @@ use Rattle.complex.specs.Functions.{modulus_of}
 use Rattle.call.specs.Limits.{normalised_of}
 use Rattle.bessel.specs.declared.arguments.Arguments.{Arguments}
 use Rattle.bessel.specs.Arguments.{arguments_of}
-use Rattle.bessel.specs.Checks.{kChecks, series_checks}
+use Rattle.bessel.specs.Checks.{k_checks, series_checks}
 use Rattle.bessel.specs.Outcome.{call_outcome}
 use Rattle.bessel.specs.Series.{visited_by, visit_steps, series_outcome}
-use Rattle.bessel.specs.K.{kSteps, kOutcome}
+use Rattle.bessel.specs.K.{k_steps, k_outcome}
 
 made-zero : (x : Float) → eq x nothing ≡ true → normalised_of x ≡ nothing
 unfolding normalised_of
@@ -33,13 +33,13 @@ unfolding arguments_of
 part_same v re im e = ap (λ (x : Float). record { order = normalised_of v; z = record { re = x; im = im }; modulus = modulus_of (record { re = x; im = im }) }) (same-zero re e)
 
 module _ (scaled turned : Bool) (v re im : Float) (length : ℕ) where
-  pub k-order : eq v nothing ≡ true → kOutcome scaled v re im length ≡ kOutcome scaled nothing re im length
-  unfolding kOutcome
-  k-order e = ap (λ (a : Arguments). call_outcome (kChecks a length) length (kSteps scaled a length)) (order_same v re im e)
+  pub k-order : eq v nothing ≡ true → k_outcome scaled v re im length ≡ k_outcome scaled nothing re im length
+  unfolding k_outcome
+  k-order e = ap (λ (a : Arguments). call_outcome (k_checks a length) length (k_steps scaled a length)) (order_same v re im e)
 
-  pub k-part : eq re nothing ≡ true → kOutcome scaled v re im length ≡ kOutcome scaled v nothing im length
-  unfolding kOutcome
-  k-part e = ap (λ (a : Arguments). call_outcome (kChecks a length) length (kSteps scaled a length)) (part_same v re im e)
+  pub k-part : eq re nothing ≡ true → k_outcome scaled v re im length ≡ k_outcome scaled v nothing im length
+  unfolding k_outcome
+  k-part e = ap (λ (a : Arguments). call_outcome (k_checks a length) length (k_steps scaled a length)) (part_same v re im e)
 
   pub series-order : eq v nothing ≡ true → series_outcome scaled turned v re im length ≡ series_outcome scaled turned nothing re im length
   unfolding series_outcome

@@ -17,8 +17,8 @@ k_own_checks a =
     check (is_zero a.z.re a.z.im) Zero
     ∷ []
 
-unfoldable pub kChecks : Arguments → ℕ → List Check
-kChecks a length = argument_checks a length ++ k_own_checks a
+unfoldable pub k_checks : Arguments → ℕ → List Check
+k_checks a length = argument_checks a length ++ k_own_checks a
 
 -- the power series' own, behind them: 5
 unfoldable pub series_own_checks : Arguments → ℕ → List Check

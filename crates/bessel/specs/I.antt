@@ -4,5 +4,5 @@ use Rattle.bessel.specs.Outcome.{Outcome}
 use Rattle.bessel.specs.Series.{series_outcome}
 
 -- the power series (ZBINU, ZSERI; DLMF 10.25.2), its sign as it is
-unfoldable pub iOutcome : Bool → Float → Float → Float → ℕ → Outcome
-iOutcome scaled v re im length = series_outcome scaled false v re im length
+unfoldable pub i_outcome : Bool → Float → Float → Float → ℕ → Outcome
+i_outcome scaled v re im length = series_outcome scaled false v re im length

@@ -14,7 +14,7 @@ use Rattle.call.specs.Answer.{signed_of, answered_of}
 use Rattle.call.specs.Checks.{Check, check}
 use Rattle.bessel.specs.declared.arguments.Arguments.{Arguments}
 use Rattle.bessel.specs.Arguments.{arguments_of}
-use Rattle.bessel.specs.Checks.{kChecks}
+use Rattle.bessel.specs.Checks.{k_checks}
 use Rattle.bessel.specs.Outcome.{Outcome, Steps, Delivered, Stopped, call_outcome}
 
 -- the kernel of an admitted call (ZBKNU)
@@ -30,13 +30,13 @@ unfoldable pub kernel_steps : kernels.Ending → List Float → Steps
 kernel_steps (ended.Answered c) cells = Delivered (counts_answer c) 0 cells
 kernel_steps (ended.Refused r) cells = Stopped r
 
-unfoldable pub kSteps : Bool → Arguments → ℕ → Steps
-kSteps scaled a length = let k = kernel_by scaled a length in kernel_steps k.ending k.cells
+unfoldable pub k_steps : Bool → Arguments → ℕ → Steps
+k_steps scaled a length = let k = kernel_by scaled a length in kernel_steps k.ending k.cells
 
-unfoldable pub kOutcome : Bool → Float → Float → Float → ℕ → Outcome
-kOutcome scaled v re im length =
+unfoldable pub k_outcome : Bool → Float → Float → Float → ℕ → Outcome
+k_outcome scaled v re im length =
     let a = arguments_of v re im in
-    call_outcome (kChecks a length) length (kSteps scaled a length)
+    call_outcome (k_checks a length) length (k_steps scaled a length)
 
 -- ---- all checks, those that the steps answer too: 6, 7 and 8 are the last
 unfoldable pub ground_by : Arguments → ℕ → Ground
@@ -50,7 +50,7 @@ kernel_checks scaled a length =
     ∷ []
 
 unfoldable pub all_k_checks : Bool → Arguments → ℕ → List Check
-all_k_checks scaled a length = kChecks a length ++ kernel_checks scaled a length
+all_k_checks scaled a length = k_checks a length ++ kernel_checks scaled a length
 
 -- zeros that a count of the record can hold
 abbrev pub Fewer : kernels.Ending → Type 0

@@ -3,7 +3,7 @@
 ghost use Rattle.std.specs.Prelude.{◌≡◌, ◌<◌};
 ghost use Rattle.power_series.specs.Series.{beyond_series};
 ghost use Rattle.call.specs.Checks.{verdict_of};
-ghost use Rattle.bessel.specs.Checks.{argument_checks, kChecks, series_checks};
+ghost use Rattle.bessel.specs.Checks.{argument_checks, k_checks, series_checks};
 
 use crate::arguments::Arguments;
 use call::checks::Verdict;
@@ -34,7 +34,7 @@ fn argument_verdict(a: Arguments, length: usize) -> Verdict
 }
 
 pub fn k_verdict(a: Arguments, length: usize) -> Verdict
-    ensures { result ≡ verdict_of (kChecks a length) }
+    ensures { result ≡ verdict_of (k_checks a length) }
 {
     let z = a.z;
     let verdict = argument_verdict(a, length);

@@ -1,13 +1,13 @@
 // The entry point of K: n consecutive orders from v up at z = re + im·i, plain or times e^z, into the lent cells, re before im.
 // From src/amos/right_half_plane.rs, k_right_half_plane (ZBKNU), behind the checks that docs/SCOPE.md settles.
-// Promised for every input: kOutcome of specs/K.antt, the record and every cell.
+// Promised for every input: k_outcome of specs/K.antt, the record and every cell.
 ghost use Rattle.std.specs.Prelude.{◌≡◌, true, T, length};
 ghost use Rattle.std.specs.Float.Ieee.{le};
 ghost use Rattle.laws.proofs.Relative.{nonnegative};
 ghost use Rattle.complex.specs.Functions.{modulus_of};
 ghost use Rattle.call.specs.Limits.{largest_order, length_inside};
 ghost use Rattle.bessel.specs.Outcome.{concluded_of};
-ghost use Rattle.bessel.specs.K.{Fewer, kernel_steps, kSteps, kOutcome};
+ghost use Rattle.bessel.specs.K.{Fewer, kernel_steps, k_steps, k_outcome};
 
 use crate::arguments::{Arguments, prepare};
 use crate::checks::k_verdict;
@@ -37,8 +37,8 @@ fn by_kernel(scaled: bool, a: Arguments, out: &mut [f64]) -> Answer
         × T (nonnegative a.order)
         × T (le a.order largest_order)
         × (a.modulus ≡ modulus_of a.z) }
-    ensures { (result ≡ (concluded_of (length out.old) (kSteps scaled a (length out.old))).answer)
-        × (out.new ≡ (concluded_of (length out.old) (kSteps scaled a (length out.old))).cells) }
+    ensures { (result ≡ (concluded_of (length out.old) (k_steps scaled a (length out.old))).answer)
+        × (out.new ≡ (concluded_of (length out.old) (k_steps scaled a (length out.old))).cells) }
 {
     let z = a.z;
     let ending = k_right_half_plane(scaled, a.order, z, a.modulus, out);
@@ -46,8 +46,8 @@ fn by_kernel(scaled: bool, a: Arguments, out: &mut [f64]) -> Answer
 }
 
 pub fn k(scaled: bool, v: f64, re: f64, im: f64, out: &mut [f64]) -> Answer
-    ensures { (result ≡ (kOutcome scaled v re im (length out.old)).answer)
-        × (out.new ≡ (kOutcome scaled v re im (length out.old)).cells) }
+    ensures { (result ≡ (k_outcome scaled v re im (length out.old)).answer)
+        × (out.new ≡ (k_outcome scaled v re im (length out.old)).cells) }
 {
     let a = prepare(v, re, im);
     let verdict = k_verdict(a, out.len());

@@ -18,8 +18,8 @@ ghost use Rattle.frame.specs.Over.{offered};
 ghost use Rattle.sweeping.specs.Sweep.{swept_of, frames_of};
 ghost use Rattle.page.specs.Joining.{join_number, join_page, line_number, line_page};
 ghost use Rattle.capi.specs.Outcome.{outcome_of, is_scaled, answer_of, request_of, sweep_of};
-ghost use Rattle.bessel.specs.I.{iOutcome};
-ghost use Rattle.bessel.specs.K.{kOutcome};
+ghost use Rattle.bessel.specs.I.{i_outcome};
+ghost use Rattle.bessel.specs.K.{k_outcome};
 
 use call::answer;
 use gamma_ln::log_gamma::log_gamma;
@@ -147,16 +147,16 @@ fn projected(a: answer::Answer) -> Answer
 
 // n orders of I into the 2n lent cells, re before im. scaled: 0 no, any other yes. Refused or not, every cell is written.
 pub fn lichenoar_i(scaled: u8, v: f64, re: f64, im: f64, out: &mut [f64]) -> Answer
-    ensures { (result ≡ answer_of (iOutcome (is_scaled scaled) v re im (length out.old)).answer)
-        × (out.new ≡ (iOutcome (is_scaled scaled) v re im (length out.old)).cells) }
+    ensures { (result ≡ answer_of (i_outcome (is_scaled scaled) v re im (length out.old)).answer)
+        × (out.new ≡ (i_outcome (is_scaled scaled) v re im (length out.old)).cells) }
 {
     projected(bessel::i::i(scaled != 0, v, re, im, out))
 }
 
 // n orders of K into the 2n lent cells, as for I.
 pub fn lichenoar_k(scaled: u8, v: f64, re: f64, im: f64, out: &mut [f64]) -> Answer
-    ensures { (result ≡ answer_of (kOutcome (is_scaled scaled) v re im (length out.old)).answer)
-        × (out.new ≡ (kOutcome (is_scaled scaled) v re im (length out.old)).cells) }
+    ensures { (result ≡ answer_of (k_outcome (is_scaled scaled) v re im (length out.old)).answer)
+        × (out.new ≡ (k_outcome (is_scaled scaled) v re im (length out.old)).cells) }
 {
     projected(bessel::k::k(scaled != 0, v, re, im, out))
 }

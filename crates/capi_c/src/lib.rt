@@ -19,8 +19,8 @@ ghost use Rattle.frame.specs.Over.{offered};
 ghost use Rattle.sweeping.specs.Sweep.{swept_of, frames_of};
 ghost use Rattle.page.specs.Joining.{join_number, join_page, line_number, line_page};
 ghost use Rattle.capi.specs.Outcome.{outcome_of, is_scaled, answer_of, request_of, sweep_of};
-ghost use Rattle.bessel.specs.I.{iOutcome};
-ghost use Rattle.bessel.specs.K.{kOutcome};
+ghost use Rattle.bessel.specs.I.{i_outcome};
+ghost use Rattle.bessel.specs.K.{k_outcome};
 
 use capi::{Answer, LogGamma, Sweep};
 
@@ -121,8 +121,8 @@ pub extern "C" fn lichenoar_log_gamma(x: f64) -> LogGamma
 // n orders of I into the 2n lent cells, re before im. scaled: 0 no, any other yes. Refused or not, every cell is written.
 #[unsafe(no_mangle)]
 pub extern "C" fn lichenoar_i(scaled: u8, v: f64, re: f64, im: f64, out: &mut [f64]) -> Answer
-    ensures { (result ≡ answer_of (iOutcome (is_scaled scaled) v re im (length out.old)).answer)
-        × (out.new ≡ (iOutcome (is_scaled scaled) v re im (length out.old)).cells) }
+    ensures { (result ≡ answer_of (i_outcome (is_scaled scaled) v re im (length out.old)).answer)
+        × (out.new ≡ (i_outcome (is_scaled scaled) v re im (length out.old)).cells) }
 {
     capi::lichenoar_i(scaled, v, re, im, out)
 }
@@ -130,8 +130,8 @@ pub extern "C" fn lichenoar_i(scaled: u8, v: f64, re: f64, im: f64, out: &mut [f
 // n orders of K into the 2n lent cells, as for I.
 #[unsafe(no_mangle)]
 pub extern "C" fn lichenoar_k(scaled: u8, v: f64, re: f64, im: f64, out: &mut [f64]) -> Answer
-    ensures { (result ≡ answer_of (kOutcome (is_scaled scaled) v re im (length out.old)).answer)
-        × (out.new ≡ (kOutcome (is_scaled scaled) v re im (length out.old)).cells) }
+    ensures { (result ≡ answer_of (k_outcome (is_scaled scaled) v re im (length out.old)).answer)
+        × (out.new ≡ (k_outcome (is_scaled scaled) v re im (length out.old)).cells) }
 {
     capi::lichenoar_k(scaled, v, re, im, out)
 }

@@ -28,8 +28,8 @@ use Rattle.series_step.specs.Setting as series
 use Rattle.power_series.proofs.VisitSums.{Wanted, walk_after}
 use Rattle.bessel.specs.Arguments.{arguments_of}
 use Rattle.bessel.specs.Series.{all_series_checks, series_outcome, visited_by, visit_checks}
-use Rattle.bessel.specs.I.{iOutcome}
-use Rattle.bessel.specs.K.{ground_by, all_k_checks, kOutcome, kernel_by, kernel_checks}
+use Rattle.bessel.specs.I.{i_outcome}
+use Rattle.bessel.specs.K.{ground_by, all_k_checks, k_outcome, kernel_by, kernel_checks}
 use Rattle.bessel.specs.declared.arguments.Arguments.{Arguments}
 use Rattle.bessel.proofs.CallFacts.{RefusedWhole}
 use Rattle.bessel.proofs.SeriesOutcome as i
@@ -38,7 +38,7 @@ use Rattle.bessel.proofs.KernelOutcome as k
 use Rattle.bessel.proofs.KernelSums.{Sums}
 use Rattle.bessel.proofs.KernelSums as k-sums
 use Rattle.bessel.proofs.OffHalf.{NeitherZero, off-half}
-use Rattle.bessel.specs.Checks.{kChecks, argument_checks, k_own_checks, series_own_checks, series_checks}
+use Rattle.bessel.specs.Checks.{k_checks, argument_checks, k_own_checks, series_own_checks, series_checks}
 use Rattle.right_half_plane.specs.ByMiller.{is_half}
 use Rattle.bessel.proofs.LogGammas.{Asked as LogGammaAsked, answered-log-gammas-end, Seeding, seeding, recurring}
 use Rattle.right_half_plane.specs.declared.ground.Ground.{Ground}
@@ -121,10 +121,10 @@ of-checks = record { first = first-decides; once = given-at }
 
 -- ---- K
 pub record OfK : Type 0 where
-  -- the contract of `k` gives the record and the cells: no second outcome fits it. `kOutcome` has no argument for what the cells held before
-  pub one-outcome : (scaled : Bool) (v re im : Float) (length : ℕ) → let o = kOutcome scaled v re im length in Determined (Gives o.answer o.cells)
+  -- the contract of `k` gives the record and the cells: no second outcome fits it. `k_outcome` has no argument for what the cells held before
+  pub one-outcome : (scaled : Bool) (v re im : Float) (length : ℕ) → let o = k_outcome scaled v re im length in Determined (Gives o.answer o.cells)
   -- each number exactly when its check is the first that applies, 0 exactly when none does; 3, 11 and 12 by the limit that was hit; no number but those of the list
-  pub number : (scaled : Bool) (v re im : Float) (length : ℕ) → NumberOfK scaled v re im length (kOutcome scaled v re im length).answer.number
+  pub number : (scaled : Bool) (v re im : Float) (length : ℕ) → NumberOfK scaled v re im length (k_outcome scaled v re im length).answer.number
   pub listed : (scaled : Bool) (a : Arguments) (length : ℕ) → numbers_of (all_k_checks scaled a length) ≡ 1 ∷ 2 ∷ 3 ∷ 11 ∷ 12 ∷ 4 ∷ 6 ∷ 7 ∷ 8 ∷ []
   -- the list itself: the conditions in their order, over the call's own arguments and steps
   pub table :
@@ -141,8 +141,8 @@ pub record OfK : Type 0 where
       ∷ check (not (all_finite (kernel_by scaled a length).cells)) Overflow
       ∷ []
   -- an order or a real part of -0 is first made +0
-  pub zero-order : (scaled : Bool) (v re im : Float) (length : ℕ) → eq v nothing ≡ true → kOutcome scaled v re im length ≡ kOutcome scaled nothing re im length
-  pub zero-part : (scaled : Bool) (v re im : Float) (length : ℕ) → eq re nothing ≡ true → kOutcome scaled v re im length ≡ kOutcome scaled v nothing im length
+  pub zero-order : (scaled : Bool) (v re im : Float) (length : ℕ) → eq v nothing ≡ true → k_outcome scaled v re im length ≡ k_outcome scaled nothing re im length
+  pub zero-part : (scaled : Bool) (v re im : Float) (length : ℕ) → eq re nothing ≡ true → k_outcome scaled v re im length ≡ k_outcome scaled v nothing im length
   -- the words of 6 and of 7 are true of a call's steps exactly where the kernel ends so; without two neighbours every offset was climbed
   pub six : (scaled : Bool) (order : Float) (z : Complex) (modulus : Float) (n : ℕ) → start_refused (ground_of order z modulus n) ≡ refuses Start (kernel_of scaled order z modulus n).ending
   pub seven : (scaled : Bool) (order : Float) (z : Complex) (modulus : Float) (n : ℕ) → climb_refused (ground_of order z modulus n) scaled ≡ refuses Climb (kernel_of scaled order z modulus n).ending
@@ -150,36 +150,36 @@ pub record OfK : Type 0 where
   -- refused, with the fixed not-a-number in every cell and counts of zero; or answered by the defined steps
   pub whole :
       (scaled : Bool) (v re im : Float) (length : ℕ) →
-      RefusedWhole length (kOutcome scaled v re im length) ⊎ k.AnsweredWhole scaled (arguments_of v re im) length (kOutcome scaled v re im length)
+      RefusedWhole length (k_outcome scaled v re im length) ⊎ k.AnsweredWhole scaled (arguments_of v re im) length (k_outcome scaled v re im length)
   -- a number above 0 is a refusal's, and 0 an answer's; as many cells are left as were lent
-  pub refused : (scaled : Bool) (v re im : Float) (length : ℕ) → 0 < (kOutcome scaled v re im length).answer.number → RefusedWhole length (kOutcome scaled v re im length)
+  pub refused : (scaled : Bool) (v re im : Float) (length : ℕ) → 0 < (k_outcome scaled v re im length).answer.number → RefusedWhole length (k_outcome scaled v re im length)
   pub answered :
-      (scaled : Bool) (v re im : Float) (length : ℕ) → (kOutcome scaled v re im length).answer.number ≡ 0 →
-      k.AnsweredWhole scaled (arguments_of v re im) length (kOutcome scaled v re im length)
-  pub cells : (scaled : Bool) (v re im : Float) (length : ℕ) → length-of (kOutcome scaled v re im length).cells ≡ length
+      (scaled : Bool) (v re im : Float) (length : ℕ) → (k_outcome scaled v re im length).answer.number ≡ 0 →
+      k.AnsweredWhole scaled (arguments_of v re im) length (k_outcome scaled v re im length)
+  pub cells : (scaled : Bool) (v re im : Float) (length : ℕ) → length-of (k_outcome scaled v re im length).cells ≡ length
   -- r is the order rounded: where the checks are passed, it is a whole number to 1,000, which its type holds
   pub rounded :
-      (v re im : Float) (length : ℕ) → none_applies (kChecks (arguments_of v re im) length) ≡ true →
+      (v re im : Float) (length : ℕ) → none_applies (k_checks (arguments_of v re im) length) ≡ true →
       let order = (arguments_of v re im).order in T (in_unsigned binary64 32 (round_of order)) × (nearest_order order ≤ 1000)
   -- in every answered call: r + n - 2 rungs, which is none for r = 0 and n = 1, at most 256 backward steps, +0 in the entries before the count
   pub counts :
-      (scaled : Bool) (v re im : Float) (length : ℕ) → (kOutcome scaled v re im length).answer.number ≡ 0 →
-      k.Counted scaled (arguments_of v re im) length (kOutcome scaled v re im length)
-  pub terms : (scaled : Bool) (v re im : Float) (length : ℕ) → (kOutcome scaled v re im length).answer.number ≡ 0 → (kOutcome scaled v re im length).answer.longest_sum ≤ 18
+      (scaled : Bool) (v re im : Float) (length : ℕ) → (k_outcome scaled v re im length).answer.number ≡ 0 →
+      k.Counted scaled (arguments_of v re im) length (k_outcome scaled v re im length)
+  pub terms : (scaled : Bool) (v re im : Float) (length : ℕ) → (k_outcome scaled v re im length).answer.number ≡ 0 → (k_outcome scaled v re im length).answer.longest_sum ≤ 18
   -- in every answered call no sum ends for want of steps (every f64 fits binary64): where Temme's branch is taken, this call's sum, if it is begun, its difference series, where it is
   -- taken, and the series of its one log-gamma end by their own tests; any other branch begins none
   pub sums :
-      (scaled : Bool) (v re im : Float) (length : ℕ) → T (fits binary64 v) → (kOutcome scaled v re im length).answer.number ≡ 0 →
-      Sums scaled (arguments_of v re im) length (kOutcome scaled v re im length)
+      (scaled : Bool) (v re im : Float) (length : ℕ) → T (fits binary64 v) → (k_outcome scaled v re im length).answer.number ≡ 0 →
+      Sums scaled (arguments_of v re im) length (k_outcome scaled v re im length)
   -- where the checks are passed and the fraction is not ±½, neither |cos(π fraction)| nor |1/4 - fraction²| is zero: the Rust text's tests for these never hold
   pub off-half :
-      (v re im : Float) (length : ℕ) → T (fits binary64 v) → none_applies (kChecks (arguments_of v re im) length) ≡ true →
+      (v re im : Float) (length : ℕ) → T (fits binary64 v) → none_applies (k_checks (arguments_of v re im) length) ≡ true →
       is_half (ground_by (arguments_of v re im) length).fraction ≡ false → NeitherZero (arguments_of v re im) length
 
 of-k : OfK
-unfolding all_k_checks kChecks k_own_checks argument_checks length_checks finite_checks limit_checks kernel_checks
+unfolding all_k_checks k_checks k_own_checks argument_checks length_checks finite_checks limit_checks kernel_checks
 of-k = record {
-  one-outcome = λ scaled v re im length. let o = kOutcome scaled v re im length in one-outcome o.answer o.cells;
+  one-outcome = λ scaled v re im length. let o = k_outcome scaled v re im length in one-outcome o.answer o.cells;
   number = number-of-k;
   listed = k.listed;
   table = λ scaled a length. refl;
@@ -272,28 +272,28 @@ of-series = record {
 
 -- ---- I: all that is said of the series, with `turned` false
 pub record OfI : Type 0 where
-  pub as-series : (scaled : Bool) (v re im : Float) (length : ℕ) → iOutcome scaled v re im length ≡ series_outcome scaled false v re im length
-  pub one-outcome : (scaled : Bool) (v re im : Float) (length : ℕ) → let o = iOutcome scaled v re im length in Determined (Gives o.answer o.cells)
-  pub number : (scaled : Bool) (v re im : Float) (length : ℕ) → NumberOfSeries scaled false v re im length (iOutcome scaled v re im length).answer.number
+  pub as-series : (scaled : Bool) (v re im : Float) (length : ℕ) → i_outcome scaled v re im length ≡ series_outcome scaled false v re im length
+  pub one-outcome : (scaled : Bool) (v re im : Float) (length : ℕ) → let o = i_outcome scaled v re im length in Determined (Gives o.answer o.cells)
+  pub number : (scaled : Bool) (v re im : Float) (length : ℕ) → NumberOfSeries scaled false v re im length (i_outcome scaled v re im length).answer.number
   pub whole :
       (scaled : Bool) (v re im : Float) (length : ℕ) →
-      RefusedWhole length (iOutcome scaled v re im length) ⊎ i.AnsweredWhole scaled false (arguments_of v re im) length (iOutcome scaled v re im length)
+      RefusedWhole length (i_outcome scaled v re im length) ⊎ i.AnsweredWhole scaled false (arguments_of v re im) length (i_outcome scaled v re im length)
   pub counts :
-      (scaled : Bool) (v re im : Float) (length : ℕ) → (iOutcome scaled v re im length).answer.number ≡ 0 →
-      i.Counted scaled false (arguments_of v re im) length (iOutcome scaled v re im length)
+      (scaled : Bool) (v re im : Float) (length : ℕ) → (i_outcome scaled v re im length).answer.number ≡ 0 →
+      i.Counted scaled false (arguments_of v re im) length (i_outcome scaled v re im length)
   pub listed : (scaled : Bool) (a : Arguments) (length : ℕ) → numbers_of (all_series_checks scaled false a length) ≡ 1 ∷ 2 ∷ 3 ∷ 11 ∷ 12 ∷ 5 ∷ 8 ∷ []
-  pub sums : (scaled : Bool) (v re im : Float) (length : ℕ) → T (fits binary64 re) → T (fits binary64 im) → (iOutcome scaled v re im length).answer.number ≡ 0 →
+  pub sums : (scaled : Bool) (v re im : Float) (length : ℕ) → T (fits binary64 re) → T (fits binary64 im) → (i_outcome scaled v re im length).answer.number ≡ 0 →
       (at : ℕ) → let a = arguments_of v re im in let g = series.setting_of scaled false a.order a.z a.modulus in let u = order_plus_one a.order ((walk_after g (length / 2) at).standing.left - 1) in
       Wanted (walk_after g (length / 2) at) → sum_is_one (half_square a.modulus) u ≡ false → EndsByTest g.half_z_sq (half_square a.modulus) u
   pub log-gammas :
-      (scaled : Bool) (v re im : Float) (length : ℕ) → (iOutcome scaled v re im length).answer.number ≡ 0 →
+      (scaled : Bool) (v re im : Float) (length : ℕ) → (i_outcome scaled v re im length).answer.number ≡ 0 →
       (x : Float) → LogGammaAsked scaled false (arguments_of v re im) length x → T (positive x) × stirling.EndsByTest (series_argument_of x)
 
 of-i : OfI
-unfolding iOutcome
+unfolding i_outcome
 of-i = record {
   as-series = λ scaled v re im length. refl;
-  one-outcome = λ scaled v re im length. let o = iOutcome scaled v re im length in one-outcome o.answer o.cells;
+  one-outcome = λ scaled v re im length. let o = i_outcome scaled v re im length in one-outcome o.answer o.cells;
   number = λ scaled v re im length. number-of-series scaled false v re im length;
   whole = λ scaled v re im length. i.whole scaled false v re im length;
   counts = λ scaled v re im length. i.answered-counts scaled false v re im length;
@@ -337,24 +337,24 @@ pub record OfExports : Type 0 where
   pub log-gamma : (x : Float) → Determined (λ (r : exported.LogGamma). r ≡ exported_log_gamma (log_gamma_of x))
   pub i :
       (scaled : ℕ) (v re im : Float) (length : ℕ) →
-      let o = iOutcome (is_scaled scaled) v re im length in Determined (Gives (answer_of o.answer) o.cells)
+      let o = i_outcome (is_scaled scaled) v re im length in Determined (Gives (answer_of o.answer) o.cells)
   pub k :
       (scaled : ℕ) (v re im : Float) (length : ℕ) →
-      let o = kOutcome (is_scaled scaled) v re im length in Determined (Gives (answer_of o.answer) o.cells)
+      let o = k_outcome (is_scaled scaled) v re im length in Determined (Gives (answer_of o.answer) o.cells)
   -- the numbers that C is handed are those of log-gamma, of I and of K
   pub log-gamma-number :
       (x : Float) →
       Given (log-gammas.all_checks x) (exported_log_gamma (log_gamma_of x)).number × T (is_one_of (exported_log_gamma (log_gamma_of x)).number (0 ∷ 2 ∷ 10 ∷ 8 ∷ []))
-  pub i-number : (scaled : ℕ) (v re im : Float) (length : ℕ) → NumberOfSeries (is_scaled scaled) false v re im length (answer_of (iOutcome (is_scaled scaled) v re im length).answer).number
-  pub k-number : (scaled : ℕ) (v re im : Float) (length : ℕ) → NumberOfK (is_scaled scaled) v re im length (answer_of (kOutcome (is_scaled scaled) v re im length).answer).number
+  pub i-number : (scaled : ℕ) (v re im : Float) (length : ℕ) → NumberOfSeries (is_scaled scaled) false v re im length (answer_of (i_outcome (is_scaled scaled) v re im length).answer).number
+  pub k-number : (scaled : ℕ) (v re im : Float) (length : ℕ) → NumberOfK (is_scaled scaled) v re im length (answer_of (k_outcome (is_scaled scaled) v re im length).answer).number
 
 of-exports : OfExports
-unfolding iOutcome
+unfolding i_outcome
 of-exports = record {
   routines = of-routines.one-result;
   log-gamma = λ x. one-result (exported_log_gamma (log_gamma_of x));
-  i = λ scaled v re im length. let o = iOutcome (is_scaled scaled) v re im length in one-outcome (answer_of o.answer) o.cells;
-  k = λ scaled v re im length. let o = kOutcome (is_scaled scaled) v re im length in one-outcome (answer_of o.answer) o.cells;
+  i = λ scaled v re im length. let o = i_outcome (is_scaled scaled) v re im length in one-outcome (answer_of o.answer) o.cells;
+  k = λ scaled v re im length. let o = k_outcome (is_scaled scaled) v re im length in one-outcome (answer_of o.answer) o.cells;
   log-gamma-number = exported-numbers;
   i-number = λ scaled v re im length. number-of-series (is_scaled scaled) false v re im length;
   k-number = λ scaled v re im length. number-of-k (is_scaled scaled) v re im length;
@@ -384,8 +384,8 @@ pub record OfLines : Type 0 where
   pub no_room : (d line : List ℕ) → length-of d < length-of (answer_line_of line) → bytes_into d line ≡ d
   -- the line of a frame is that of the call which it asks for, on two cells a pair, re before im; more than 512 pairs get refusal 1
   pub asked : (line : List ℕ) (a : Asking) → parsed_of line ≡ Asked a → answer_line_of line ≡ line_of (called_of a (a.count * 2)).answer (called_of a (a.count * 2)).cells
-  pub called-k : (a : Asking) (n : ℕ) → a.kind ≡ K → called_of a n ≡ kOutcome a.scaled a.v a.re a.im n
-  pub called-i : (a : Asking) (n : ℕ) → a.kind ≡ I → called_of a n ≡ iOutcome a.scaled a.v a.re a.im n
+  pub called-k : (a : Asking) (n : ℕ) → a.kind ≡ K → called_of a n ≡ k_outcome a.scaled a.v a.re a.im n
+  pub called-i : (a : Asking) (n : ℕ) → a.kind ≡ I → called_of a n ≡ i_outcome a.scaled a.v a.re a.im n
   pub too_many : (a : Asking) → 512 < a.count → called_of a (a.count * 2) ≡ refused_outcome Length (a.count * 2)
   -- what is no frame is malformed, by its length or by a digit; a frame is asked by its fields, of which a kind or a scaling can be wrong (`asked_of`)
   pub framed : (line : List ℕ) (f : Fields) → framed_of line ≡ Frame f → parsed_of line ≡ asked_of f

@@ -14,8 +14,8 @@ use Rattle.call.specs.Answer.{refused_of}
 use Rattle.call.proofs.FirstFacts.{is_one_of}
 use Rattle.bessel.specs.Arguments.{arguments_of}
 use Rattle.bessel.specs.Outcome.{Outcome, refused_outcome}
-use Rattle.bessel.specs.I.{iOutcome}
-use Rattle.bessel.specs.K.{kOutcome}
+use Rattle.bessel.specs.I.{i_outcome}
+use Rattle.bessel.specs.K.{k_outcome}
 use Rattle.bessel.proofs.SeriesOutcome as i
 use Rattle.bessel.proofs.KernelOutcome as k
 use Rattle.frame.specs.declared.asking.Asking.{Asking}
@@ -31,7 +31,7 @@ use Rattle.claims.proofs.Numbers.{NumberOfK, NumberOfSeries, number-of-k, number
 
 -- 9 is in neither list
 called-never : (kind : Kind) (a : Asking) (length : ℕ) → (called_as kind a length).answer.number ≡ 9 → ⊥
-unfolding called_as iOutcome
+unfolding called_as i_outcome
 called-never K a length e =
     let b = arguments_of a.v a.re a.im in
     subst (λ (l : List ℕ). T (is_one_of 9 l)) (k.listed a.scaled b length) ((k.numbers a.scaled a.v a.re a.im length).only 9 (lit< tt) e)
@@ -63,7 +63,7 @@ line-number-k line a e h =
 
 pub line-number-i : (line : List ℕ) (a : Asking) → parsed_of line ≡ Asked a → a.kind ≡ I →
     NumberOfSeries a.scaled false a.v a.re a.im (a.count * 2) (number_of (take byte_width (answer_line_of line)))
-unfolding outcome_of called_of called_as iOutcome
+unfolding outcome_of called_of called_as i_outcome
 line-number-i line a e h =
     let n = a.count * 2 in
     subst (NumberOfSeries a.scaled false a.v a.re a.im n)
@@ -89,12 +89,12 @@ abbrev pub line_numbers : List ℕ
 line_numbers = 0 ∷ 9 ∷ 1 ∷ 2 ∷ 3 ∷ 11 ∷ 12 ∷ 4 ∷ 5 ∷ 6 ∷ 7 ∷ 8 ∷ []
 
 called-listed : (kind : Kind) (a : Asking) (n : ℕ) → T (is_one_of (called_as kind a n).answer.number line_numbers)
-unfolding called_as iOutcome all_of
+unfolding called_as i_outcome all_of
 called-listed K a n =
-    let m = (kOutcome a.scaled a.v a.re a.im n).answer.number in
+    let m = (k_outcome a.scaled a.v a.re a.im n).answer.number in
     one_of_all (λ x. is_one_of x line_numbers) m (0 ∷ 1 ∷ 2 ∷ 3 ∷ 11 ∷ 12 ∷ 4 ∷ 6 ∷ 7 ∷ 8 ∷ []) tt (number-of-k a.scaled a.v a.re a.im n).no_other
 called-listed I a n =
-    let m = (iOutcome a.scaled a.v a.re a.im n).answer.number in
+    let m = (i_outcome a.scaled a.v a.re a.im n).answer.number in
     one_of_all (λ x. is_one_of x line_numbers) m (0 ∷ 1 ∷ 2 ∷ 3 ∷ 11 ∷ 12 ∷ 5 ∷ 8 ∷ []) tt (number-of-series a.scaled false a.v a.re a.im n).no_other
 
 outcome-listed : (p : Parsed) → T (is_one_of (outcome_of p).answer.number line_numbers)

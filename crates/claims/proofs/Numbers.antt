@@ -8,7 +8,7 @@ use Rattle.call.proofs.FirstFacts.{Given, is_one_of}
 use Rattle.call.proofs.WhichLimit.{HitsLimit}
 use Rattle.bessel.specs.Arguments.{arguments_of}
 use Rattle.bessel.specs.Series.{all_series_checks, series_outcome}
-use Rattle.bessel.specs.K.{all_k_checks, kOutcome}
+use Rattle.bessel.specs.K.{all_k_checks, k_outcome}
 use Rattle.bessel.proofs.SeriesOutcome as i
 use Rattle.bessel.proofs.KernelOutcome as k
 
@@ -18,7 +18,7 @@ pub record NumberOfK (scaled : Bool) (v re im : Float) (length : ℕ) (m : ℕ) 
   pub limits : let a = arguments_of v re im in HitsLimit length a.order a.z.re a.z.im m
   pub no_other : T (is_one_of m (0 ∷ 1 ∷ 2 ∷ 3 ∷ 11 ∷ 12 ∷ 4 ∷ 6 ∷ 7 ∷ 8 ∷ []))
 
-pub number-of-k : (scaled : Bool) (v re im : Float) (length : ℕ) → NumberOfK scaled v re im length (kOutcome scaled v re im length).answer.number
+pub number-of-k : (scaled : Bool) (v re im : Float) (length : ℕ) → NumberOfK scaled v re im length (k_outcome scaled v re im length).answer.number
 number-of-k scaled v re im length = record { given = k.numbers scaled v re im length; limits = k.limits scaled v re im length; no_other = k.admitted scaled v re im length }
 
 -- ---- of the power series, for either sign of z²/4; of I where it is not turned

@@ -21,24 +21,24 @@ use Rattle.call.specs.Answer.{answered_of}
 use Rattle.call.specs.Limits.{length_inside, are_finite, order_inside}
 use Rattle.bessel.specs.Arguments.{arguments_of}
 use Rattle.bessel.specs.Outcome.{refused_outcome}
-use Rattle.bessel.specs.I.{iOutcome}
-use Rattle.bessel.specs.K.{kOutcome}
+use Rattle.bessel.specs.I.{i_outcome}
+use Rattle.bessel.specs.K.{k_outcome}
 use Rattle.bessel.proofs.Rows.{at_zero, near-zero, beyond, k_empty, k-too-long, k-not-a-number, k-below-zero}
 
 pub record Rows : Type 0 where
   -- I at z = 0, v = 1, n = 2: zeros, and none is counted
-  pub i-at-zero : (scaled : Bool) → iOutcome scaled one nothing nothing 4 ≡ record { answer = answered_of (pos 0) 0 0 0; cells = nothing ∷ nothing ∷ nothing ∷ nothing ∷ [] }
+  pub i-at-zero : (scaled : Bool) → i_outcome scaled one nothing nothing 4 ≡ record { answer = answered_of (pos 0) 0 0 0; cells = nothing ∷ nothing ∷ nothing ∷ nothing ∷ [] }
   -- I at z = 2^-1040, v = 0, n = 3: 1, 0, 0, and two are counted
-  pub i-near-zero : (scaled : Bool) → iOutcome scaled nothing (of_bits binary64 0x0000000400000000) nothing 6 ≡ record { answer = answered_of (pos 2) 0 0 0; cells = one ∷ nothing ∷ nothing ∷ nothing ∷ nothing ∷ nothing ∷ [] }
+  pub i-near-zero : (scaled : Bool) → i_outcome scaled nothing (of_bits binary64 0x0000000400000000) nothing 6 ≡ record { answer = answered_of (pos 2) 0 0 0; cells = one ∷ nothing ∷ nothing ∷ nothing ∷ nothing ∷ nothing ∷ [] }
   -- K at an order that is not a number and z = 0: refusal 2
-  pub k-order-not-a-number : (scaled : Bool) (length : ℕ) → length_inside length ≡ true → kOutcome scaled nan nothing nothing length ≡ refused_outcome NotFinite length
+  pub k-order-not-a-number : (scaled : Bool) (length : ℕ) → length_inside length ≡ true → k_outcome scaled nan nothing nothing length ≡ refused_outcome NotFinite length
   -- K at re = -2^-1074, at any order from 0 to 1,000 and any finite im, whatever its size: refusal 11
-  pub k-left-of-zero : (scaled : Bool) (v im : Float) (length : ℕ) → let a = arguments_of v (of_bits binary64 0x8000000000000001) im in length_inside length ≡ true → are_finite a.order a.z.re a.z.im ≡ true → order_inside a.order ≡ true → kOutcome scaled v (of_bits binary64 0x8000000000000001) im length ≡ refused_outcome Sign length
+  pub k-left-of-zero : (scaled : Bool) (v im : Float) (length : ℕ) → let a = arguments_of v (of_bits binary64 0x8000000000000001) im in length_inside length ≡ true → are_finite a.order a.z.re a.z.im ≡ true → order_inside a.order ≡ true → k_outcome scaled v (of_bits binary64 0x8000000000000001) im length ≡ refused_outcome Sign length
   -- K on an empty buffer, and on one of 1,026 cells: refusal 1
-  pub k-on-nothing : (scaled : Bool) (v re im : Float) → kOutcome scaled v re im 0 ≡ refused_outcome Length 0
-  pub k-on-too-much : (scaled : Bool) (v re im : Float) → kOutcome scaled v re im 1026 ≡ refused_outcome Length 1026
+  pub k-on-nothing : (scaled : Bool) (v re im : Float) → k_outcome scaled v re im 0 ≡ refused_outcome Length 0
+  pub k-on-too-much : (scaled : Bool) (v re im : Float) → k_outcome scaled v re im 1026 ≡ refused_outcome Length 1026
   -- I at z = 4, v = 0, n = 1: refusal 5
-  pub i-beyond-series : (scaled : Bool) → iOutcome scaled nothing (of_bits binary64 0x4010000000000000) nothing 2 ≡ refused_outcome Series 2
+  pub i-beyond-series : (scaled : Bool) → i_outcome scaled nothing (of_bits binary64 0x4010000000000000) nothing 2 ≡ refused_outcome Series 2
   -- (0, 0) and (1, 0) are not lost, (2^-980, 2^-980) is, and a pair with a not-a-number part never is
   pub zeros-kept : lost_of (record { re = nothing; im = nothing }) ≡ false
   pub one_kept : lost_of (record { re = one; im = nothing }) ≡ false

@@ -1,8 +1,8 @@
 -- One read after the others, and what the whole run comes to. Assumes nothing.
-use mathlib.Core.Path.{◌≡◌, refl, sym, ap, ◌∙◌, subst}
+use mathlib.Core.Path.{◌≡◌, sym, ap, ◌∙◌, subst}
 use mathlib.Core.Bool.{true, false}
 use mathlib.Core.List.{List, [], ◌∷◌, ◌++◌}
-use Prim.Native.Nat.{ℕ, ◌+◌, ◌-◌, ◌≤◌, ◌<◌, min}
+use Prim.Native.Nat.{ℕ, ◌+◌, ◌≤◌, ◌<◌, min}
 use native.Mathlib.Omega.{arith}
 use borrow.Author.Tests.{ltb-true}
 use lib.Dec.{T}
@@ -12,9 +12,8 @@ use lib.Seq.{length-take-le, take_all}
 use lib.Signed.{lt_z}
 use Rattle.io.specs.Counts.{clamp_len}
 use Rattle.splitting.specs.Lines.{last_of, lines_of}
-use Rattle.splitting.specs.Cut.{left_by, ended_in}
-use Rattle.splitting.specs.Count.{counted, Adds}
-use Rattle.splitting.specs.State.{status_of}
+use Rattle.splitting.specs.Cut.{ended_in}
+use Rattle.splitting.specs.Count.{counted}
 use Rattle.splitting.proofs.CutFacts.{lines-parts}
 use Rattle.splitting.proofs.StateFacts.{status-zero}
 use Rattle.splitting.specs.declared.state.State.TheVariants.{Going, Whole, Unread}

@@ -9,7 +9,7 @@ use lib.Dec.{ltb, leb, eqb}
 use lib.ListN.{length, take, length-append, length-take}
 use lib.Seq.{take_all}
 use Rattle.splitting.specs.Cut.{shortened}
-use Rattle.splitting.specs.Count.{counted, Adds}
+use Rattle.splitting.specs.Count.{counted}
 use Rattle.splitting.proofs.CountFacts.{adds_none, adds_again}
 use Rattle.frame.specs.declared.reading.Reading.{Reading}
 use Rattle.frame.specs.declared.reading.Reading.TheVariants.{Readable, Unreadable}

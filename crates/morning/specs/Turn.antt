@@ -4,7 +4,6 @@ use Rattle.splitting.specs.Lines.{last_of, lines_of}
 use Rattle.splitting.specs.Cut.{left_by, left_if, ended_in, closed_if}
 use Rattle.splitting.specs.Count.{Adds}
 use Rattle.splitting.specs.State.{status_of}
-use Rattle.splitting.specs.declared.state.State.{State}
 use Rattle.splitting.specs.declared.state.State.TheVariants.{Going, Whole, Unread}
 use Rattle.page.specs.Layout.{most_lines}
 use Rattle.page.specs.Parts.{page_of}

@@ -1,7 +1,7 @@
 // How far the program is: what it holds of a line, how many lines were too many, and whether it goes on or how it ended.
 use splitting::state::State;
 
-#[derive(Drop)]
+#[derive(Clone, Copy)]
 pub struct Turn {
     pub held: usize,
     pub refused: u64,

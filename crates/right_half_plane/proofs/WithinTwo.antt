@@ -108,7 +108,7 @@ inner-two x y Fx Fy (fx, bx) (fy, by) = up-lo-le h two bound two-lo (lit≤ tt)
 
 -- ---- a root from below: that of P / Q at least is A / B at least, where P / Q is a little above A squared over B squared
 root-core : (Z W n d s t P Q A B : ℕ) → 0 < t → 0 < Z → 0 < Q → W * (s * (d * d)) ≤ Z * (n * n * t) → P * t ≤ s * Q → Z * (A * A * Q) ≤ W * (P * (B * B)) → A * d * (A * d) ≤ n * B * (n * B)
-root-core Z W n d s t P Q A B pt pZ pQ c l k =
+root-core Z W n d s t P Q A B pt p_z p_q c l k =
     let e1 : A * d * (A * d) * (t * (Z * Q)) ≡ Z * (A * A * Q) * (d * d * t) = simp (mul_assoc, mul_comm, mul_left_comm) in
     let e2 : W * (P * (B * B)) * (d * d * t) ≡ P * t * (W * (B * B) * (d * d)) = simp (mul_assoc, mul_comm, mul_left_comm) in
     let e3 : s * Q * (W * (B * B) * (d * d)) ≡ W * (s * (d * d)) * (Q * (B * B)) = simp (mul_assoc, mul_comm, mul_left_comm) in
@@ -119,7 +119,7 @@ root-core Z W n d s t P Q A B pt pZ pQ c l k =
     (le_trans (le_of_eq e2)
     (le_trans (mul-le-mul_right (W * (B * B) * (d * d)) l)
     (le_trans (le_of_eq e3) (le_trans (mul-le-mul_right (Q * (B * B)) c) (le_of_eq e4)))))))
-    (mul-pos pt (mul-pos pZ pQ))
+    (mul-pos pt (mul-pos p_z p_q))
 
 root-lo : (S : Float) (P Q A B : ℕ) → T (fits binary64 S) → T (positive S) → den S ≤ num S * 2 ^ 1022 → T (finite S) → Lo S P Q → 0 < B → 2 ^ 49 * (A * A * Q) ≤ (2 ^ 49 - 1) * (P * (B * B)) → Lo (root_at (to_bits binary64 S)) A B
 root-lo S P Q A B F p n f l b k =

@@ -113,10 +113,10 @@ root_units X F = nearest_root 53 X * 2 ^ F
 abbrev root_pattern : ℕ → ℕ → ℕ
 root_pattern X F = nearest_root 53 X + F * 2 ^ 52
 
-abbrev pub zUnits : Float → ℕ
-zUnits z = units_of (to_bits binary64 z)
+abbrev pub z_units : Float → ℕ
+z_units z = units_of (to_bits binary64 z)
 
-pub units-value : (z : Float) → T (fits binary64 z) → T (positive z) → HasValue z false (zUnits z) (2 ^ 1074)
+pub units-value : (z : Float) → T (fits binary64 z) → T (positive z) → HasValue z false (z_units z) (2 ^ 1074)
 units-value z G p = to_bits-value z G (positive-finite z p) (value-sign z false (num z) (den z) (own_value z p))
 
 module _ (x : Float) (n X F : ℕ) (v : HasValue x false n (2 ^ 1074)) (e : X * (2 ^ F * 2 ^ F) ≡ n * 2 ^ 1074) (l : 2 ^ 104 ≤ X) (u : X ≤ 2 ^ 106 - 2 ^ 53) (f : F < 2046) where
@@ -129,40 +129,40 @@ module _ (x : Float) (n X F : ℕ) (v : HasValue x false n (2 ^ 1074)) (e : X * 
   four-times : 4 * (X * (2 ^ F * 2 ^ F)) ≡ 4 * n * 2 ^ 1074
   four-times = ap (λ (t : ℕ). 4 * t) e ∙ sym (mul_assoc 4 n (2 ^ 1074))
 
-  under : (z : Float) → T (fits binary64 z) → T (positive z) → T (lt z (of_bits binary64 (root_pattern X F))) → (root_units X F + zUnits z) * (root_units X F + zUnits z) < 4 * n * 2 ^ 1074
+  under : (z : Float) → T (fits binary64 z) → T (positive z) → T (lt z (of_bits binary64 (root_pattern X F))) → (root_units X F + z_units z) * (root_units X F + z_units z) < 4 * n * 2 ^ 1074
   under z G p h =
       let S = nearest_root 53 X in
-      let a : zUnits z * 2 ^ 1074 < root_units X F * 2 ^ 1074 =
-      lt-values z (of_bits binary64 (root_pattern X F)) (zUnits z) (2 ^ 1074) (root_units X F) (2 ^ 1074) (pow_pos 1074) (pow_pos 1074) (units-value z G p) value h in
-      let b : zUnits z < root_units X F = lt_of_mul-lt-mul_right (2 ^ 1074) a in
+      let a : z_units z * 2 ^ 1074 < root_units X F * 2 ^ 1074 =
+      lt-values z (of_bits binary64 (root_pattern X F)) (z_units z) (2 ^ 1074) (root_units X F) (2 ^ 1074) (pow_pos 1074) (pow_pos 1074) (units-value z G p) value h in
+      let b : z_units z < root_units X F = lt_of_mul-lt-mul_right (2 ^ 1074) a in
       let c : to_bits binary64 z < root_pattern X F = units-lt-back (to_bits binary64 z) (root_pattern X F) (lt_of_lt_of_le b (le_of_eq (sym own-units))) in
       let less : to_bits binary64 z ≤ root_pattern X F - 1 = omega (arith, c) in
-      let middle : (root_units X F + zUnits z) * (root_units X F + zUnits z) < 4 * (X * (2 ^ F * 2 ^ F)) =
+      let middle : (root_units X F + z_units z) * (root_units X F + z_units z) < 4 * (X * (2 ^ F * 2 ^ F)) =
       elim (which (2 ^ 52) S) [
         | inl k ↦
-            middle-below X S (2 ^ F) (zUnits z) (pow_pos F) (lt_of_le_of_lt (lit≤ tt) k) (root-nearest X l u)
+            middle-below X S (2 ^ F) (z_units z) (pow_pos F) (lt_of_le_of_lt (lit≤ tt) k) (root-nearest X l u)
             (le_trans (units-le (to_bits binary64 z) (root_pattern X F - 1) less) (le_of_eq (next-below S F k (root-most X l u))))
-        | inr k ↦ middle-edge X S (2 ^ F) (zUnits z) (le_trans (mul-le-mul k k) l) b
+        | inr k ↦ middle-edge X S (2 ^ F) (z_units z) (le_trans (mul-le-mul k k) l) b
       ] in
       lt_of_lt_of_le middle (le_of_eq four-times)
 
-  over : (z : Float) → T (fits binary64 z) → T (positive z) → T (lt (of_bits binary64 (root_pattern X F)) z) → 4 * n * 2 ^ 1074 < (root_units X F + zUnits z) * (root_units X F + zUnits z)
+  over : (z : Float) → T (fits binary64 z) → T (positive z) → T (lt (of_bits binary64 (root_pattern X F)) z) → 4 * n * 2 ^ 1074 < (root_units X F + z_units z) * (root_units X F + z_units z)
   over z G p h =
       let S = nearest_root 53 X in
-      let a : root_units X F * 2 ^ 1074 < zUnits z * 2 ^ 1074 =
-      lt-values (of_bits binary64 (root_pattern X F)) z (root_units X F) (2 ^ 1074) (zUnits z) (2 ^ 1074) (pow_pos 1074) (pow_pos 1074) value (units-value z G p) h in
-      let b : root_units X F < zUnits z = lt_of_mul-lt-mul_right (2 ^ 1074) a in
+      let a : root_units X F * 2 ^ 1074 < z_units z * 2 ^ 1074 =
+      lt-values (of_bits binary64 (root_pattern X F)) z (root_units X F) (2 ^ 1074) (z_units z) (2 ^ 1074) (pow_pos 1074) (pow_pos 1074) value (units-value z G p) h in
+      let b : root_units X F < z_units z = lt_of_mul-lt-mul_right (2 ^ 1074) a in
       let c : root_pattern X F < to_bits binary64 z = units-lt-back (root_pattern X F) (to_bits binary64 z) (lt_of_le_of_lt (le_of_eq own-units) b) in
       let more : root_pattern X F + 1 ≤ to_bits binary64 z = omega (arith, c) in
       lt_of_le_of_lt (le_of_eq (sym four-times))
-      (middle-above X S (2 ^ F) (zUnits z) (pow_pos F) (root-nearest X l u)
+      (middle-above X S (2 ^ F) (z_units z) (pow_pos F) (root-nearest X l u)
       (le_trans (le_of_eq (sym (next-above S F (root-least X l u) (root-most X l u)))) (units-le (root_pattern X F + 1) (to_bits binary64 z) more)))
 
   joined : (z : Float) → T (fits binary64 z) → T (positive z)
-      → (num (of_bits binary64 (root_pattern X F)) * den z + num z * den (of_bits binary64 (root_pattern X F))) * 2 ^ 1074 ≡ (root_units X F + zUnits z) * (den (of_bits binary64 (root_pattern X F)) * den z)
+      → (num (of_bits binary64 (root_pattern X F)) * den z + num z * den (of_bits binary64 (root_pattern X F))) * 2 ^ 1074 ≡ (root_units X F + z_units z) * (den (of_bits binary64 (root_pattern X F)) * den z)
   joined z G p =
       let r = of_bits binary64 (root_pattern X F) in
-      sum-cross (num r) (num z) (den r) (den z) (2 ^ 1074) (root_units X F) (zUnits z) (value→cross r (root_units X F) (2 ^ 1074) value) (value→cross z (zUnits z) (2 ^ 1074) (units-value z G p))
+      sum-cross (num r) (num z) (den r) (den z) (2 ^ 1074) (root_units X F) (z_units z) (value→cross r (root_units X F) (2 ^ 1074) value) (value→cross z (z_units z) (2 ^ 1074) (units-value z G p))
 
   pub pattern-nearest : NearestRoot x (of_bits binary64 (root_pattern X F))
   pattern-nearest =
@@ -171,10 +171,10 @@ module _ (x : Float) (n X F : ℕ) (v : HasValue x false n (2 ^ 1074)) (e : X * 
         holds = of_bits-fits binary64 (root_pattern X F);
         is_positive = positive_of_value r (root_units X F) (2 ^ 1074) value (mul-pos (lt_of_lt_of_le (lit< tt) (root-least X l u)) (pow_pos F));
         below = λ z G p h.
-            cross-below (num r * den z + num z * den r) (2 ^ 1074) (root_units X F + zUnits z) (den r * den z) (num x) n (den x) (pow_pos 1074) (mul-pos (den_pos r) (den_pos z)) (den_pos x) (joined z G p)
+            cross-below (num r * den z + num z * den r) (2 ^ 1074) (root_units X F + z_units z) (den r * den z) (num x) n (den x) (pow_pos 1074) (mul-pos (den_pos r) (den_pos z)) (den_pos x) (joined z G p)
             (value→cross x n (2 ^ 1074) v) (under z G p h);
         above = λ z G p h.
-            cross-above (num r * den z + num z * den r) (2 ^ 1074) (root_units X F + zUnits z) (den r * den z) (num x) n (den x) (pow_pos 1074) (mul-pos (den_pos r) (den_pos z)) (den_pos x) (joined z G p)
+            cross-above (num r * den z + num z * den r) (2 ^ 1074) (root_units X F + z_units z) (den r * den z) (num x) n (den x) (pow_pos 1074) (mul-pos (den_pos r) (den_pos z)) (den_pos x) (joined z G p)
             (value→cross x n (2 ^ 1074) v) (over z G p h);
       }
 

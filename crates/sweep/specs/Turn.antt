@@ -1,5 +1,5 @@
 -- What a line, a read and the whole run come to: what is held, the three counts, and how it ended. Definitions only.
-use Rattle.std.specs.Prelude.{◌≡◌, Bool, true, false, cond, ◌⊎◌, List, [], ◌∷◌, ℕ, ◌≤◌, min, eqb, ℤ, pos, negsuc, length, take}
+use Rattle.std.specs.Prelude.{◌≡◌, Bool, cond, ◌⊎◌, List, [], ◌∷◌, ℕ, ◌≤◌, min, eqb, ℤ, pos, negsuc, length, take}
 use Rattle.splitting.specs.Lines.{last_of, lines_of}
 use Rattle.splitting.specs.Cut.{left_by, left_if, ended_in, closed_if}
 use Rattle.splitting.specs.Count.{total_of, Adds}

@@ -1,7 +1,7 @@
 -- `bessel::checks::k_verdict` meets its contract: the shared checks, and K's own behind them. Assumes nothing.
 use Rattle.call.specs.Checks.{verdict_from, verdict_of}
 use Rattle.call.proofs.FirstFacts.{verdict-append, stays}
-use Rattle.bessel.specs.Checks.{k_own_checks, kChecks}
+use Rattle.bessel.specs.Checks.{k_own_checks, k_checks}
 use borrow.Author.Rules.{rules}
 use Rattle.bessel.proofs.checks.k_verdict.Statement.{statement}
 use Rattle.bessel.proofs.checks.k_verdict.Tie as tie
@@ -22,11 +22,11 @@ enum-told-2 : tie.Need-enum-told-2
 enum-told-2 c = search rules
 
 returns : tie.Need-returns
-unfolding verdict_of verdict_from kChecks k_own_checks
+unfolding verdict_of verdict_from k_checks k_own_checks
 returns c = rw verdict-append (cc)
 
 returns-2 : tie.Need-returns-2
-unfolding verdict_of kChecks
+unfolding verdict_of k_checks
 returns-2 c = rw (verdict-append, ← c.before.before.argument-verdict.ensures, c.enum-told2.given.1, stays)
 
 pub k-verdict-spec : {M : Type 1} → statement M

@@ -1,5 +1,5 @@
 -- `bessel::i::i` meets its contract: the power series with its sign as it is. Assumes nothing.
-use Rattle.bessel.specs.I.{iOutcome}
+use Rattle.bessel.specs.I.{i_outcome}
 use borrow.Author.Rules.{rules}
 use Rattle.bessel.proofs.i.i.Statement.{statement}
 use Rattle.bessel.proofs.i.i.Tie as tie
@@ -11,7 +11,7 @@ same_length : tie.Need-same-length
 same_length c = search rules
 
 returns : tie.Need-returns
-unfolding iOutcome
+unfolding i_outcome
 returns c = c.before.before.series-call.ensures
 
 pub i-spec : {M : Type 1} → statement M

@@ -2,7 +2,7 @@
 use mathlib.Core.Path.{ap, ◌∙◌}
 use lib.ListN.{length}
 use Rattle.bessel.specs.Outcome.{Outcome}
-use Rattle.bessel.specs.K.{kernel_by, kSteps}
+use Rattle.bessel.specs.K.{kernel_by, k_steps}
 use Rattle.call.proofs.LimitFacts.{lent}
 use Rattle.bessel.proofs.KernelFacts.{zeros-few, concluded-kernel}
 use borrow.Author.Rules.{rules}
@@ -24,7 +24,7 @@ same_length : tie.Need-same-length
 same_length c = search rules
 
 returns : tie.Need-returns
-unfolding kernel_by kSteps
+unfolding kernel_by k_steps
 returns c =
     let f = c.before.before in
     let d = f.before.before.before.before in

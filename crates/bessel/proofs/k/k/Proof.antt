@@ -1,7 +1,7 @@
 -- `bessel::k::k` meets its contract: the verdict, and what follows it. Assumes nothing.
 use mathlib.Core.Path.{sym, ◌∙◌}
 use Rattle.bessel.specs.Outcome.{outcome_by, call_outcome}
-use Rattle.bessel.specs.K.{kOutcome}
+use Rattle.bessel.specs.K.{k_outcome}
 use Rattle.bessel.proofs.ArgumentFacts.{k-ready}
 use borrow.Author.Rules.{rules}
 use Rattle.bessel.proofs.k.k.Statement.{statement}
@@ -31,7 +31,7 @@ same_length : tie.Need-same-length
 same_length c = search rules
 
 returns : tie.Need-returns
-unfolding kOutcome call_outcome outcome_by
+unfolding k_outcome call_outcome outcome_by
 returns c =
     let b = c.before.before in
     let d = b.before.before.before.before in
@@ -41,7 +41,7 @@ same-length-2 : tie.Need-same-length-2
 same-length-2 c = search rules
 
 returns-2 : tie.Need-returns-2
-unfolding kOutcome call_outcome outcome_by
+unfolding k_outcome call_outcome outcome_by
 returns-2 c =
     let b = c.before.before in
     let d = b.before.before.before.before.before in

@@ -1,7 +1,6 @@
 -- `cells::all_finite::all_finite` meets its contract: eight products, and what is left of the cells, decide at each index passed. Assumes nothing.
 use mathlib.Core.Path.{sym, ap, ◌∙◌}
 use mathlib.Core.Bool.{Bool, true, ◌&&◌}
-use Prim.Native.Nat.{◌-◌}
 use native.Mathlib.Omega.{arith}
 use lib.ListN.{drop}
 use lib.Ieee.{nan}

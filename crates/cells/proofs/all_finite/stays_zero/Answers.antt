@@ -1,6 +1,5 @@
 -- `cells::all_finite::stays_zero` meets its contract: at each index passed, the product and what is left of the cells decide. Assumes nothing.
 use mathlib.Core.Path.{refl, sym, ◌∙◌}
-use Prim.Native.Nat.{◌-◌}
 use native.Mathlib.Omega.{arith}
 use lib.Ieee.Scale.{finite}
 use Rattle.cells.proofs.AllFiniteFacts.{all-next, all_end}

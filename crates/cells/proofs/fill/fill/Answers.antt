@@ -1,6 +1,6 @@
 -- `cells::fill::fill` meets its contract: the cells in front of i hold the value. Assumes nothing.
 use mathlib.Core.Path.{◌≡◌, ap, ◌∙◌}
-use Prim.Native.Nat.{ℕ, ◌-◌}
+use Prim.Native.Nat.{ℕ}
 use native.Mathlib.Omega.{arith}
 use lib.ListN.{length, replicate}
 use Rattle.laws.proofs.Seam.{seam-start, seam-store, seam-as, seam-full}

@@ -1,0 +1,17 @@
+-- `right_half_plane::reach::climbed` meets its contract. Assumes nothing.
+use mathlib.Core.Path.{sym, subst}
+use Prim.Native.Nat.{ℕ, ◌≤◌}
+use native.Mathlib.Omega.{arith}
+use Rattle.right_half_plane.specs.Reach.{climbed_of}
+use Rattle.right_half_plane.proofs.Counts.{steps-few}
+use Rattle.right_half_plane.proofs.reach.climbed.Goals as goal
+
+pub overflow_add-steps : goal.overflow_add-steps
+overflow_add-steps c = let h : c.steps.result ≤ 1000 = subst (λ (n : ℕ). n ≤ 1000) (sym c.steps.ensures) (steps-few _ c.requires.0) in omega arith
+
+pub climb-top-requires : goal.climb-top-requires
+climb-top-requires c = let h : c.steps.result ≤ 1000 = subst (λ (n : ℕ). n ≤ 1000) (sym c.steps.ensures) (steps-few _ c.requires.0) in omega arith
+
+pub returns : goal.returns
+unfolding climbed_of
+returns c = simp (c.wanted.ensures, c.climb-top.ensures, c.steps.ensures)

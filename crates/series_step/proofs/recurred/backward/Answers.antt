@@ -1,0 +1,15 @@
+-- `series_step::recurred::backward` meets its contract: turned, and not. Assumes nothing.
+use Rattle.series_step.specs.Recurred.{backward_if, backward_of}
+use Rattle.series_step.proofs.recurred.backward.Goals as goal
+
+pub returns-then-g : goal.returns-then-g
+unfolding backward_if backward_of
+returns-then-g c =
+    let d = c in
+    simp (c.minus.ensures, c.if-g.true, d.times_real-product.ensures, d.product.ensures)
+
+pub returns : goal.returns
+unfolding backward_if backward_of
+returns c =
+    let d = c in
+    simp (c.plus.ensures, c.if-g.false, d.times_real-product.ensures, d.product.ensures)

@@ -1,5 +1,7 @@
 // The entry points: which calls are admitted, every cell of the lent buffer, and the answer record.
 // docs/SCOPE.md, Domain and refusals, has the rules; the steps behind the checks are the kernels' crates.
+#![tactic(auto)]
+
 pub mod arguments;
 pub mod checks;
 pub mod i;

@@ -57,7 +57,7 @@ ghost use Rattle.std.specs.Prelude.{{◌≡◌, ◌<◌}};
 ghost use Rattle.angle_tables.specs.Tables.{{tabled_of}};
 
 // An angle as an unevaluated sum.
-#[derive(Drop)]
+#[derive(Clone, Copy)]
 pub struct Sum {{
     pub high: f64,
     pub low: f64,

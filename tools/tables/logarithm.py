@@ -42,7 +42,7 @@ def source(tables):
     out = ['// The table of ln: row j is for mantissas near 1 + j/128. It is a match, which the compiler turns into constants in memory: an array',
            '// would be stored anew in each call. Written and confirmed by tools/tables/logarithm.py, with specs/Tables.antt and the proof that they',
            '// agree.',
-           'ghost use Rattle.std.specs.Prelude.{◌≡◌, ◌<◌};', 'ghost use Rattle.logarithm_tables.specs.Tables.{row_of};', '', '#[derive(Drop)]', 'pub struct Row {']
+           'ghost use Rattle.std.specs.Prelude.{◌≡◌, ◌<◌};', 'ghost use Rattle.logarithm_tables.specs.Tables.{row_of};', '', '#[derive(Clone, Copy)]', 'pub struct Row {']
     for field, _, what in COLUMNS:
         out += ['    // ' + what, '    pub %s: f64,' % field]
     out += ['}', '', 'pub fn row_of(j: u64) -> Row', '    requires { j < %d }' % STEPS, '    ensures { result ≡ row_of j }', '{', '    match j {']

@@ -71,7 +71,7 @@ def source(columns):
         'ghost use Rattle.roots_tables.specs.Tables.{constants, slopes, bends};',
         '',
         '// constant + slope * d - bend * d * d, with d the distance from the left end of the piece',
-        '#[derive(Drop)]',
+        '#[derive(Clone, Copy)]',
         'pub struct Quadratic {',
     ]
     lines += [f'    pub {field}: f64,' for field, _, _ in NAMES]

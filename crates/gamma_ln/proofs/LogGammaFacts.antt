@@ -1,7 +1,7 @@
 -- What log-gamma gives, exactly when: one outcome for each argument, and each number under its own condition and no other. Assumes nothing.
 use mathlib.Core.Path.{◌≡◌, refl, sym, ap, ◌∙◌, subst}
 use mathlib.Core.Bool.{Bool, true, false, not, cond}
-use mathlib.Core.List.{List, [], ◌∷◌, ◌++◌}
+use mathlib.Core.List.{[], ◌∷◌}
 use Prim.Native.Nat.{ℕ, ◌<◌}
 use native.Mathlib.Nat.{lt_irrefl, mul-pos}
 use native.Mathlib.Omega.{arith}
@@ -23,7 +23,7 @@ use Rattle.call.specs.declared.checks.Verdict.{Verdict}
 use Rattle.call.specs.declared.checks.Verdict.TheVariants as verdicts
 use Rattle.call.specs.Checks.{refused_if, verdict_from, verdict_of}
 use Rattle.call.specs.Checks as calls
-use Rattle.call.proofs.FirstFacts.{stays, verdict-append, Given, given}
+use Rattle.call.proofs.FirstFacts.{verdict-append, Given, given}
 use Rattle.gamma_ln.specs.declared.log_gamma.LogGamma.{LogGamma}
 use Rattle.gamma_ln.specs.declared.log_gamma.LogGamma.TheVariants.{Value, Refused}
 use Rattle.gamma_ln_tables.specs.Tables.{whole_values}

@@ -1,6 +1,6 @@
 -- What the entry point answers: a value, or one refusal; and the number and the values that each case of the enum stands for. Definitions
 -- only.
-use Rattle.std.specs.Prelude.{ℕ, Bool, not, cond, List, [], ◌∷◌, ◌++◌, Float}
+use Rattle.std.specs.Prelude.{ℕ, not, cond, List, [], ◌∷◌, ◌++◌, Float}
 use Rattle.std.specs.Float.Ieee.{le}
 use Rattle.std.specs.Float.Ieee.Scale.{finite}
 use Rattle.machine.specs.Small.{nothing}

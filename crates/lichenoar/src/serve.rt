@@ -1,7 +1,7 @@
 // The input in reads to its end. A read that fails is not the end: what was answered by then stays written, and the line that is held is not
 // answered. Promised of one read, whatever it reports and brings: Taken of specs/Turn.antt. No contract can say what a read brings, so of the
 // whole run stated is that some input has answers as long as what the writer took: the one that the reads brought.
-ghost use Rattle.std.specs.Prelude.{◌≡◌, ◌≤◌, length, take};
+ghost use Rattle.std.specs.Prelude.{◌≡◌, ◌≤◌, length, take, pos, ◌<ℤ◌, IfOk, OnErr};
 ghost use Rattle.answering.specs.Feed.{most_held};
 ghost use Rattle.lichenoar.specs.Feed.{most_room};
 ghost use Rattle.lichenoar.specs.Turn.{AtEnd, Taken, OneRead, Served};
@@ -10,7 +10,7 @@ use crate::deliver::consume;
 use crate::turn::Turn;
 use splitting::cut::NEWLINE;
 use splitting::state::{State, is_over};
-use std::io::{Read, Stdin};
+use std::io::{Error, Read, Stdin};
 
 // The last line may lack its newline: it is answered as if it had one.
 fn finish(line: &mut [u8], held: usize, out: &mut [u8], sent: u64) -> Turn
@@ -63,9 +63,13 @@ fn take_read(
     consume(&input[0..n], line, held, out, sent)
 }
 
-// What a read reports: how many bytes it put at the buffer's start, or less than 0 where it failed.
-fn read_some(stdin: &mut Stdin, input: &mut [u8; 65536]) -> isize {
-    match stdin.read(input) {
+// What a read reported as a number: how many bytes it put at the buffer's start, or less than 0 where it failed.
+fn reported(got: Result<usize, Error>) -> isize
+    requires { IfOk got (λ n. n ≤ 65536) }
+    ensures counted { IfOk got (λ n. result ≡ pos n) }
+    ensures failed { OnErr got (result <ℤ pos 0) }
+{
+    match got {
         Ok(n) => n as isize,
         Err(_) => -1,
     }
@@ -76,7 +80,7 @@ fn serve_read(stdin: &mut Stdin, line: &mut [u8], held: usize, out: &mut [u8], s
     ensures { OneRead (take held line.old) sent line.new result }
 {
     let mut input = io::large_buffer();
-    let got = read_some(stdin, &mut input);
+    let got = reported(stdin.read(&mut input));
     take_read(got, &input, line, held, out, sent)
 }
 

@@ -1,5 +1,5 @@
 // How the program ended, told: one line on standard error where something was lost, and the status, one digit and a newline, on descriptor 3
-// where that is open. A program of this language ends with status 0 always; whoever starts it turns the digit into a status.
+// where that is open. The program itself ends with status 0 always; whoever starts it turns the digit into a status.
 ghost use Rattle.std.specs.Prelude.{◌≡◌};
 ghost use Rattle.lichenoar.specs.Turn.{status_of};
 

@@ -1,7 +1,7 @@
 // The input in reads to its end, each cut into lines. A read that fails is not the end: nothing is said then of the lines before it. Promised of one
 // read, whatever it reports and brings: TakenRead of specs/Turn.antt. No contract can say what a read brings, so of the whole run stated is that the page
 // is that of some input's lines: of the one that the reads brought.
-ghost use Rattle.std.specs.Prelude.{◌≡◌, ◌≤◌, ◌<◌, length, take};
+ghost use Rattle.std.specs.Prelude.{◌≡◌, ◌≤◌, ◌<◌, length, take, pos, ◌<ℤ◌, IfOk, OnErr};
 ghost use Rattle.splitting.specs.Cut.{part_of};
 ghost use Rattle.page.specs.Joining.{empty_page};
 ghost use Rattle.morning.specs.Turn.{most_held, Settled, Passed, PassedTo, AtEnd, TakenRead, OneRead, Served};
@@ -11,7 +11,7 @@ use crate::tally::{tally, tally_digits};
 use crate::turn::{Progress, Turn};
 use splitting::cut::{Piece, take_line};
 use splitting::state::{State, is_over};
-use std::io::{Read, Stdin};
+use std::io::{Error, Read, Stdin};
 
 // A line that has come to its end is counted; of any other the held bytes wait.
 fn settle(piece: Piece, line: &[u8], page: &mut [u64; 58], refused: u64) -> Progress
@@ -142,9 +142,13 @@ fn take_read(got: isize, input: &[u8], line: &mut [u8], page: &mut [u64; 58], tu
     consume(&input[0..n], line, turn.held, page, turn.refused)
 }
 
-// What a read reports: how many bytes it put at the buffer's start, or less than 0 where it failed.
-fn read_some(stdin: &mut Stdin, input: &mut [u8; 65536]) -> isize {
-    match stdin.read(input) {
+// What a read reported as a number: how many bytes it put at the buffer's start, or less than 0 where it failed.
+fn reported(got: Result<usize, Error>) -> isize
+    requires { IfOk got (λ n. n ≤ 65536) }
+    ensures counted { IfOk got (λ n. result ≡ pos n) }
+    ensures failed { OnErr got (result <ℤ pos 0) }
+{
+    match got {
         Ok(n) => n as isize,
         Err(_) => -1,
     }
@@ -156,7 +160,7 @@ fn serve_read(stdin: &mut Stdin, line: &mut [u8], page: &mut [u64; 58], turn: Tu
         page.new result }
 {
     let mut input = io::large_buffer();
-    let got = read_some(stdin, &mut input);
+    let got = reported(stdin.read(&mut input));
     take_read(got, &input, line, page, turn)
 }
 

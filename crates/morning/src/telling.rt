@@ -1,5 +1,5 @@
 // What is told at the end: the page on standard output, a line on standard error for lines too many or for what was lost, and the status, one digit and a
-// newline, on descriptor 3 where that is open. A program of this language ends with status 0 always; whoever starts it turns the digit into a status.
+// newline, on descriptor 3 where that is open. The program itself ends with status 0 always; whoever starts it turns the digit into a status.
 // No contract of the kit says what a write was given, so `send` demands that it is given exactly the text of the page of what was read.
 ghost use Rattle.std.specs.Prelude.{◌≡◌};
 ghost use Rattle.splitting.specs.declared.state.State.TheVariants.{Whole};

@@ -1,19 +1,18 @@
 -- No total overflows: a line counts for at most 65,535 in any cell, so that of 2^32 - 1 lines no cell comes near 2^64. Assumes nothing.
-use mathlib.Core.Path.{◌≡◌, refl, sym, ap, ◌∙◌, subst}
+use mathlib.Core.Path.{◌≡◌, refl, sym, subst}
 use mathlib.Core.Bool.{Bool, true, false, cond, ◌&&◌}
 use mathlib.Core.List.{List, [], ◌∷◌}
-use Prim.Native.Nat.{ℕ, zero, suc, ◌+◌, ◌*◌, ◌≤◌, ◌<◌}
+use Prim.Native.Nat.{ℕ, zero, suc, ◌*◌, ◌≤◌, ◌<◌}
 use native.Mathlib.Omega.{arith}
 use lib.Dec.{eqb}
 use lib.IntN.{ℤ, pos, negsuc, nat_abs}
 use lib.ListN.{length}
 use Rattle.splitting.specs.Count.{total_of}
-use Rattle.frame.specs.declared.reading.Record.{Record}
 use Rattle.frame.specs.declared.reading.Reading.{Reading}
 use Rattle.frame.specs.declared.reading.Reading.TheVariants.{Readable, Unreadable}
 use Rattle.frame.specs.Reading.{reading_of, FitsWord, RecordFits}
 use Rattle.frame.proofs.ReadFacts.{taken}
-use Rattle.page.specs.Layout.{cells, most_lines, most_cell}
+use Rattle.page.specs.Layout.{cells, most_lines}
 use Rattle.page.specs.Saying.{is_known, said_in, said_by}
 use Rattle.page.specs.Parts.{as_number, as_longest, if_answered, rungs_in, backward_in, zeros_in, as_unreadable, end_at, part_at, cell_of}
 use Rattle.page.proofs.PartFacts.{number-part, reserved-part, longest-part, end-part, at_cells}

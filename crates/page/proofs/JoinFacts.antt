@@ -1,18 +1,14 @@
 -- Joining pages, whatever their cells hold: its number exactly, and that where it is not refused its order and its grouping do not matter.
 -- Assumes nothing.
-use mathlib.Core.Path.{◌≡◌, refl, sym, ap, ap₂, ◌∙◌}
+use mathlib.Core.Path.{◌≡◌, refl, sym, ap, ◌∙◌}
 use mathlib.Core.Logic.{◌⊎◌, inl, inr}
-use mathlib.Core.Bool.{Bool, true, false, cond}
+use mathlib.Core.Bool.{Bool, true, false}
 use mathlib.Core.List.{List}
 use Prim.Native.Nat.{ℕ, ◌+◌, ◌≤◌, ◌<◌, min}
 use native.Mathlib.Omega.{arith}
 use borrow.Author.Tests.{le-leb, lt-leb, leb-true, leb-false}
-use lib.Dec.{leb}
 use lib.ListN.{length, get_or}
-use Rattle.refusal.specs.Number.{number_of}
-use Rattle.refusal.specs.declared.refusal.Refusal.TheVariants.{Full}
 use Rattle.page.specs.Layout.{lines_at, cells, most_lines, most_cell}
-use Rattle.page.specs.Parts.{up_to}
 use Rattle.page.specs.Joining.{added_to, joined_cells, lines_in, is_room, join_number, join_page}
 use Rattle.page.proofs.CellFacts.{up_to-length, up_to-get, up_to-same, added-fits, added-min, added-over, added-comm}
 use Rattle.page.proofs.SaidFacts.{room-number, room-page, full-number, full-page}

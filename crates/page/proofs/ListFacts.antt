@@ -1,9 +1,7 @@
 -- The numbers that a line may have are the refusals' own: every number in the list is some refusal's. Assumes nothing.
-use mathlib.Core.Path.{◌≡◌, ap, ◌∙◌, sym, subst}
-use mathlib.Core.Bool.{Bool, true, false, not, ◌||◌}
-use Prim.Native.Nat.{ℕ, ◌<◌}
-use native.Mathlib.Omega.{arith}
-use borrow.Author.Tests.{eqb-true}
+use mathlib.Core.Path.{◌≡◌, subst}
+use mathlib.Core.Bool.{Bool, true, not, ◌||◌}
+use Prim.Native.Nat.{ℕ}
 use lib.Dec.{T, eqb, eqb→eq}
 use Rattle.laws.proofs.Bound.{every, every-at}
 use Rattle.refusal.specs.Number.{number_of, is_listed}

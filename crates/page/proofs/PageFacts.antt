@@ -1,6 +1,5 @@
 -- The page of a list of lines: what joining two of them gives, and what lines added one after the other give. Assumes nothing.
 use mathlib.Core.Path.{◌≡◌, refl, sym, ap, ◌∙◌}
-use mathlib.Core.Logic.{inl, inr}
 use mathlib.Core.Bool.{Bool, true, false}
 use mathlib.Core.List.{List, [], ◌∷◌, ◌++◌, append_assoc, append-nil}
 use Prim.Native.Nat.{ℕ, ◌+◌, ◌≤◌, ◌<◌}
@@ -8,12 +7,12 @@ use native.Mathlib.Omega.{arith}
 use borrow.Author.Tests.{ltb-true, ltb-false}
 use lib.Dec.{ltb}
 use lib.ListN.{length, get_or, take, length-append, get_or-replicate, length-replicate}
-use lib.Seq.{take_all, take-append-le, take_at}
+use lib.Seq.{take_all, take_at}
 use Rattle.splitting.specs.Count.{total_of}
 use Rattle.splitting.proofs.CountFacts.{total-append}
 use Rattle.page.specs.Layout.{lines_at, cells, most_lines, most_cell}
 use Rattle.page.specs.Saying.{said_by}
-use Rattle.page.specs.Parts.{part_at, cell_of, up_to, page_of}
+use Rattle.page.specs.Parts.{part_at, cell_of, page_of}
 use Rattle.page.specs.Joining.{added_to, joined_cells, empty_page, lines_in, join_number, join_page, line_number, line_page, lines_page}
 use Rattle.page.proofs.CellFacts.{up_to-length, up_to-get, up_to-same, row_is, added-fits}
 use Rattle.page.proofs.SaidFacts.{room-number, room-page, full-number, full-page}

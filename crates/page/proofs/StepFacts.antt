@@ -2,7 +2,7 @@
 use mathlib.Core.Path.{◌≡◌, refl, sym, ap, ◌∙◌}
 use mathlib.Core.Bool.{Bool, true, false, cond}
 use mathlib.Core.List.{List}
-use Prim.Native.Nat.{ℕ, zero, suc, ◌+◌, ◌≤◌, ◌<◌}
+use Prim.Native.Nat.{ℕ, zero, suc, ◌+◌, ◌<◌}
 use native.Mathlib.Omega.{arith}
 use borrow.Author.Tests.{eq-eqb, ne_eqb, eqb-true, eqb-false}
 use lib.Dec.{eqb}
@@ -16,7 +16,7 @@ use Rattle.page.specs.Layout.{numbers, longest_at, sums, rungs_at, backward_at, 
 use Rattle.page.specs.Parts.{as_number, as_longest, if_answered, rungs_in, backward_in, zeros_in, as_unreadable, end_at, part_at, one_page, up_to}
 use Rattle.page.specs.Joining.{added_to, joined_cells}
 use Rattle.page.specs.Steps.{with_added, with_line, with_answered}
-use Rattle.page.proofs.CellFacts.{up_to-length, up_to-get, up_to-same, row_is, added_none, added_twice}
+use Rattle.page.proofs.CellFacts.{up_to-get, row_is, added_none, added_twice}
 use Rattle.page.proofs.PartFacts.{number-part, reserved-part, longest-part, end-part, at_cells}
 
 -- n at one place, and nothing elsewhere

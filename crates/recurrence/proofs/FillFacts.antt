@@ -30,7 +30,7 @@ use Rattle.recurrence.specs.declared.course.Course.{Course}
 use Rattle.recurrence.specs.declared.course.Turn.{Turn}
 use Rattle.recurrence.proofs.ClimbFacts.{plain-last, climb-out, climb-last, climb-again, rung-counted}
 use Rattle.recurrence.proofs.OffScaleFacts.{Spreads, scale-spreads, scale-length, scale-pair}
-use Rattle.recurrence.proofs.StretchFacts.{held, held-value, held-rung, partway_start, partway-rung, partway-again, partway-whole}
+use Rattle.recurrence.proofs.StretchFacts.{held, held-value, held-rung, partway_start, partway-rung, partway-again}
 
 -- a seam, and another from there on
 seam-again : {A : Type 0} {d p out out' : List A} {n m : ℕ} (q : List A) → n ≤ m → Seam d p n out → Seam out (take n out ++ q) m out' → Seam d (p ++ q) m out'

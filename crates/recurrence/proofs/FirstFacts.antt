@@ -1,5 +1,5 @@
 -- First orders on scale: how the zeros and the rungs of n orders hang together. Assumes nothing.
-use mathlib.Core.Path.{◌≡◌, refl, sym, ap, ◌∙◌}
+use mathlib.Core.Path.{◌≡◌, refl, sym, ◌∙◌}
 use mathlib.Core.Logic.{◌⊎◌, inl, inr}
 use mathlib.Core.Bool.{Bool, true, false, true≢false, cond}
 use Prim.Native.Nat.{ℕ, ◌+◌, ◌-◌, ◌≤◌, ◌<◌}
@@ -15,7 +15,7 @@ use Rattle.recurrence.specs.declared.trial.Trial.{Trial}
 use Rattle.recurrence.specs.declared.search.Search.{Search}
 use Rattle.recurrence.specs.declared.search.Rule.TheVariants as rule
 use Rattle.recurrence.specs.declared.first.FirstOrders.{FirstOrders}
-use Rattle.recurrence.proofs.SearchFacts.{Searched, search-ends}
+use Rattle.recurrence.proofs.SearchFacts.{search-ends}
 
 -- either two orders were found after the zeros, and there are as many rungs as zeros; or at most one, and n - 2 rungs
 abbrev pub Counted : ℕ → FirstOrders → Type 0

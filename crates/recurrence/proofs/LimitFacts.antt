@@ -2,11 +2,10 @@
 use mathlib.Core.Path.{◌≡◌, refl, sym, ap, ◌∙◌, subst}
 use mathlib.Core.Bool.{Bool, true, false, true≢false, ◌||◌}
 use mathlib.Core.Logic.{◌⊎◌, inl, inr}
-use Prim.Native.Nat.{ℕ, ◌+◌, ◌*◌, ◌≤◌}
+use Prim.Native.Nat.{◌+◌, ◌*◌}
 use native.Mathlib.Omega.{arith}
 use borrow.Author.Tests.{le-ltb}
-use lib.Dec.{T, ltb}
-use lib.IntN.{ℤ}
+use lib.Dec.{T}
 use lib.Ieee.{Float, nan, inf, fin, binary64, of_bits, up, down, neg, lt, le, mul, div, round, size}
 use lib.Ieee.Scale.{finite}
 use Rattle.laws.proofs.Order.{nought, le→Le, not-lt→le, mul-mono-pos}
@@ -19,7 +18,6 @@ use Rattle.recurrence.specs.Rung.{exceeds, passes}
 use Rattle.recurrence.specs.declared.state.OverflowState.{OverflowState}
 use Rattle.recurrence.specs.declared.state.OverflowState.TheVariants.{NearUnder, None, NearOver}
 use Rattle.machine.proofs.MagnitudeFacts.{above-magnitude}
-use Rattle.recurrence.proofs.StateFacts.{boundary-positive}
 
 pub limit-positive : (s : OverflowState) → T (lt (of_bits binary64 0) (limit_of s))
 unfolding limit_of absolute_approximation_limit inverse_tolerance of_bits lt mul div round size

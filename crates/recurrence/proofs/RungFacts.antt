@@ -8,7 +8,6 @@ use Rattle.complex.specs.Arithmetic.{times_real}
 use Rattle.recurrence.specs.State.{reciprocal_of}
 use Rattle.recurrence.specs.Rung.{factor_of, next_of, passes, moved_climb, rung_of}
 use Rattle.recurrence.specs.declared.state.Climb.{Climb}
-use Rattle.recurrence.specs.declared.state.Rung.{Rung}
 
 module _ (two_over_z : Complex) (base_order : Float) (i : ℕ) (c : Climb) (next entry : Complex) where
   pub moves : (k : Climb) → next ≡ next_of (factor_of two_over_z base_order i) c.older c.newer → entry ≡ times_real next (reciprocal_of c.state) → passes c.state entry ≡ true

@@ -10,7 +10,7 @@ use Rattle.complex.specs.declared.number.Complex.{Complex}
 use Rattle.complex.specs.Arithmetic.{plus_of, product_of, times_real}
 use Rattle.machine.specs.Magnitude.{magnitude_of}
 use Rattle.recurrence.specs.State.{reciprocal_of, limit_of}
-use Rattle.recurrence.specs.Rung.{factor_of, next_of, exceeds, passes, rung_of}
+use Rattle.recurrence.specs.Rung.{factor_of, next_of, exceeds, rung_of}
 use Rattle.recurrence.specs.Climb.{climb_from}
 use Rattle.recurrence.specs.shapes.Held.{not_held, held_of}
 use Rattle.recurrence.specs.shapes.Course.{Stays}

@@ -1,6 +1,6 @@
 -- A climb of several rungs, and how often its state moves. ZBKNU's climb to the first order wanted (zbknu.f, DO 230); `run_recurrence_core` of
 -- src/amos/recurrence.rs with nothing to write. Definitions only.
-use Rattle.std.specs.Prelude.{ℕ, zero, suc, ◌+◌, Bool, true, false, cond, Float}
+use Rattle.std.specs.Prelude.{ℕ, zero, suc, ◌+◌, Bool, false, cond, Float}
 use Rattle.laws.specs.Run.{run}
 use Rattle.complex.specs.declared.number.Complex.{Complex}
 use Rattle.recurrence.specs.Rung.{rung_of}

@@ -1,6 +1,6 @@
 -- One rung of a climb, K(v+1) = (2v/z) K(v) + K(v-1), DLMF 10.29.1, and the move to the next state of scale: a turn of ZBKNU's DO 230 and DO 260;
 -- `run_recurrence_core` of src/amos/recurrence.rs and `scale_recurrence` of src/amos/limits.rs. Definitions only.
-use Rattle.std.specs.Prelude.{ℕ, ◌+◌, Bool, true, false, ◌||◌, cond, pos, Float}
+use Rattle.std.specs.Prelude.{ℕ, ◌+◌, Bool, false, ◌||◌, cond, pos, Float}
 use Rattle.std.specs.Float.{binary64}
 use Rattle.std.specs.Float.Ieee.{of_int, add, lt}
 use Rattle.complex.specs.declared.number.Complex.{Complex}

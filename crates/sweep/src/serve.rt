@@ -1,7 +1,7 @@
 // The input in reads to its end, each cut into lines. A read that fails is not the end: the lines before it stay answered, and the line that
 // is held is not answered. Promised of one read, whatever it reports and brings: TakenRead of specs/Turn.antt. No contract can say what a
 // read brings, so of the whole run stated is that the counts are those of some input's lines: of the one that the reads brought.
-ghost use Rattle.std.specs.Prelude.{◌≡◌, ◌≤◌, length, take};
+ghost use Rattle.std.specs.Prelude.{◌≡◌, ◌≤◌, length, take, pos, ◌<ℤ◌, IfOk, OnErr};
 ghost use Rattle.splitting.specs.declared.state.State.TheVariants.{Going};
 ghost use Rattle.sweep.specs.Turn.{most_held, most_room, Settled, AfterBytes, AtEnd, TakenRead, OneRead, Served};
 
@@ -9,7 +9,7 @@ use crate::answer::answer;
 use crate::turn::{Turn, ended_as};
 use splitting::cut::{Piece, take_line};
 use splitting::state::{State, is_over};
-use std::io::{Read, Stdin};
+use std::io::{Error, Read, Stdin};
 
 // A line that has come to its end is answered; of any other the held bytes wait.
 fn settle(piece: Piece, line: &[u8], out: &mut [u8], turn: Turn) -> Turn
@@ -80,9 +80,13 @@ fn take_read(got: isize, input: &[u8], line: &mut [u8], out: &mut [u8], turn: Tu
     consume(&input[0..n], line, out, turn)
 }
 
-// What a read reports: how many bytes it put at the buffer's start, or less than 0 where it failed.
-fn read_some(stdin: &mut Stdin, input: &mut [u8; 65536]) -> isize {
-    match stdin.read(input) {
+// What a read reported as a number: how many bytes it put at the buffer's start, or less than 0 where it failed.
+fn reported(got: Result<usize, Error>) -> isize
+    requires { IfOk got (λ n. n ≤ 65536) }
+    ensures counted { IfOk got (λ n. result ≡ pos n) }
+    ensures failed { OnErr got (result <ℤ pos 0) }
+{
+    match got {
         Ok(n) => n as isize,
         Err(_) => -1,
     }
@@ -93,7 +97,7 @@ fn serve_read(stdin: &mut Stdin, line: &mut [u8], out: &mut [u8], turn: Turn) ->
     ensures { OneRead (take turn.held line.old) turn line.new result }
 {
     let mut input = io::large_buffer();
-    let got = read_some(stdin, &mut input);
+    let got = reported(stdin.read(&mut input));
     take_read(got, &input, line, out, turn)
 }
 

@@ -14,7 +14,7 @@ use Rattle.sweeping.specs.declared.request.Request.{Request}
 use Rattle.sweeping.specs.declared.request.Requested.TheVariants.{Sought}
 use Rattle.sweeping.specs.Points.{normalised_request, step_of, part_with, fields_with, fields_at, frames_up_to}
 use Rattle.sweeping.specs.Checks.{steps_inside, count_inside, is_asked, frame_has, of_ends, ends_finite, ends_signed, ends_sized, sweep_checks}
-use Rattle.sweeping.specs.Sweep.{verdict_for, frames_of}
+use Rattle.sweeping.specs.Sweep.{verdict_for}
 use Rattle.sweeping.specs.Line.{request_from, sought_in, requested_of, frames_in, line_bytes}
 use Rattle.sweeping.proofs.SweepFacts.{admitted-frames}
 

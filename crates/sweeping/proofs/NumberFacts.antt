@@ -1,12 +1,12 @@
 -- The number of a sweep: each exactly when, in the order 13, 9, 1, 2, 3, 11, 12, and no other. Assumes nothing.
-use mathlib.Core.Path.{◌≡◌, refl, sym, ap, ◌∙◌, subst}
+use mathlib.Core.Path.{◌≡◌, refl, subst}
 use mathlib.Core.Bool.{Bool, true, false, not, cond, ◌&&◌, ◌||◌, not-not, and_assoc}
-use mathlib.Core.List.{List, [], ◌∷◌}
+use mathlib.Core.List.{[], ◌∷◌}
 use Prim.Native.Nat.{ℕ}
 use lib.Dec.{T, ltb, eqb}
 use Rattle.refusal.specs.declared.refusal.Refusal.TheVariants as refusals
 use Rattle.call.specs.Limits.{order_inside}
-use Rattle.call.specs.Checks.{Check, check, verdict_of, number_given, none_applies, numbers_of}
+use Rattle.call.specs.Checks.{Check, check, none_applies, numbers_of}
 use Rattle.call.proofs.FirstFacts.{Exactly, is_one_of, Given, given, given-at, none-or-listed}
 use Rattle.frame.specs.declared.asking.Asking.{Asking}
 use Rattle.frame.specs.declared.asking.Parsed.TheVariants.{Asked, Malformed}

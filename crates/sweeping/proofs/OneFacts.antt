@@ -1,12 +1,11 @@
 -- A sweep of one: the last pair has no part in it, and every line that the reader takes, within the limits and with no order or real part of -0, is the line of the sweep of
 -- one of its fields. Assumes nothing.
 use mathlib.Core.Path.{◌≡◌, refl, sym, ap, ◌∙◌, subst}
-use mathlib.Core.Bool.{Bool, true, false, not, cond, ◌&&◌, ◌||◌}
+use mathlib.Core.Bool.{Bool, true, false, cond}
 use mathlib.Core.List.{List, [], ◌∷◌, ◌++◌}
 use Prim.Native.Nat.{ℕ, zero, suc, ◌^◌, ◌<◌}
-use native.Mathlib.Omega.{arith}
 use lib.Dec.{T}
-use lib.Ieee.{Float, binary64, to_bits, of_bits, eq, is_nan}
+use lib.Ieee.{Float, binary64, to_bits, of_bits, eq}
 use lib.Ieee.Bits.{to_bits-of_bits, of_bits-fits}
 use lib.Ieee.Scale.{finite}
 use Rattle.laws.proofs.Value.{finite-no-nan}
@@ -25,7 +24,7 @@ use Rattle.frame.proofs.AskingInverse.{asking-fits, asking-again}
 use Rattle.frame.proofs.DigitFacts.{both}
 use Rattle.sweeping.specs.declared.request.Request.{Request}
 use Rattle.sweeping.specs.declared.sweep.Swept.{Swept}
-use Rattle.sweeping.specs.Points.{normalised_request, step_of, part_with, fields_with, fields_at, frames_up_to}
+use Rattle.sweeping.specs.Points.{normalised_request, part_with, fields_with, fields_at, frames_up_to}
 use Rattle.sweeping.specs.Checks.{steps_inside, count_inside, is_asked, frame_has, of_ends, ends_finite, ends_signed, ends_sized, sweep_checks}
 use Rattle.sweeping.specs.Sweep.{verdict_for, needed_by, frames_by, swept_of, frames_of}
 use Rattle.sweeping.specs.ReadBack.{one_of, Taken, alone_with}

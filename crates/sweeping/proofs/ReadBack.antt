@@ -1,12 +1,12 @@
 -- The frames of a sweep, read back: one line a point, in order, with the sweep's kind, scaling, count and order and the point itself. Assumes nothing.
-use mathlib.Core.Path.{◌≡◌, refl, sym, ap, ◌∙◌, subst}
-use mathlib.Core.Bool.{Bool, true, false, not, cond, ◌&&◌, ◌||◌, not-not}
+use mathlib.Core.Path.{◌≡◌, refl, sym, ap, ◌∙◌}
+use mathlib.Core.Bool.{Bool, true, false, not, cond, ◌||◌, not-not}
 use mathlib.Core.List.{List, [], ◌∷◌, ◌++◌, map, map-append}
-use Prim.Native.Nat.{ℕ, zero, suc, ◌^◌, ◌≤◌, ◌<◌}
+use Prim.Native.Nat.{ℕ, zero, suc, ◌<◌}
 use native.Mathlib.Omega.{arith}
 use borrow.Author.Tests.{eqb-true, ltb-false, leb-true}
 use lib.Dec.{T, ltb, leb, eqb}
-use lib.Ieee.{Float, binary64, fits, to_bits, of_bits, eq}
+use lib.Ieee.{Float, binary64, fits, eq}
 use lib.Ieee.Bits.{of_bits-to_bits, of_bits-fits, to_bits-lt}
 use lib.Ieee.Fits.{add-fits, cond-fits}
 use Rattle.machine.specs.Small.{nothing}
@@ -17,20 +17,18 @@ use Rattle.call.specs.declared.kind.Kind.TheVariants.{K, I}
 use Rattle.call.specs.Limits.{normalised_of}
 use Rattle.call.specs.Checks.{verdict_of, none_applies}
 use Rattle.call.proofs.FirstFacts.{admitted-none}
-use Rattle.frame.specs.declared.asking.Fields.{Fields}
 use Rattle.frame.specs.declared.asking.Framed.{Framed}
 use Rattle.frame.specs.declared.asking.Framed.TheVariants.{Frame}
 use Rattle.frame.specs.declared.asking.Parsed.{Parsed}
 use Rattle.frame.specs.declared.asking.Parsed.TheVariants.{Asked, Malformed}
-use Rattle.frame.specs.declared.asking.Asking.{Asking}
 use Rattle.frame.specs.Digits.{is_digit, are_digits}
 use Rattle.frame.specs.Asking.{framed_of, asking_of, asked_of, asked_in, parsed_of, asking_line_of, FieldsFit}
 use Rattle.frame.proofs.DigitFacts.{both}
 use Rattle.frame.proofs.AskingInverse.{asking-read}
 use Rattle.frame.proofs.AskingFacts.{framed_is}
 use Rattle.sweeping.specs.declared.request.Request.{Request}
-use Rattle.sweeping.specs.Points.{normalised_request, step_of, part_with, re_at, im_at, fields_with, fields_at, frames_up_to}
-use Rattle.sweeping.specs.Checks.{steps_inside, count_inside, is_asked, frame_has, sweep_checks}
+use Rattle.sweeping.specs.Points.{normalised_request, part_with, re_at, im_at, fields_with, fields_at, frames_up_to}
+use Rattle.sweeping.specs.Checks.{steps_inside, count_inside, frame_has, sweep_checks}
 use Rattle.sweeping.specs.Sweep.{verdict_for, frames_of}
 use Rattle.sweeping.specs.ReadBack.{asking_at, lines_up_to, fields_up_to, askings_up_to, AreValues}
 use Rattle.sweeping.proofs.NumberFacts.{frame-has}

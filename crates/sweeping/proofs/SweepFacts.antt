@@ -1,5 +1,5 @@
 -- A sweep by its verdict: admitted, it has as many frames as steps, from 1 to 4,096; refused, none. Assumes nothing.
-use mathlib.Core.Path.{◌≡◌, refl, sym, ap, ◌∙◌, subst}
+use mathlib.Core.Path.{◌≡◌, refl, sym, ap, ◌∙◌}
 use mathlib.Core.Bool.{true, not, not-not}
 use mathlib.Core.List.{List, []}
 use Prim.Native.Nat.{ℕ, ◌*◌, ◌≤◌, ◌<◌}
@@ -10,7 +10,6 @@ use lib.Ieee.Bits.{is_true}
 use lib.ListN.{length}
 use Rattle.refusal.specs.Number.{number_of}
 use Rattle.refusal.specs.declared.refusal.Refusal.{Refusal}
-use Rattle.refusal.proofs.Distinct.{never-zero}
 use Rattle.call.specs.declared.checks.Verdict.{Verdict}
 use Rattle.call.specs.declared.checks.Verdict.TheVariants.{Admitted, Refused}
 use Rattle.call.specs.Checks.{verdict_of, number_given, none_applies}

@@ -1,6 +1,6 @@
 -- A request line: the asking frame of the sweep's first point, and behind it the last pair and the number of steps (docs/SCOPE.md, The sweep).
 -- Definitions only.
-use Rattle.std.specs.Prelude.{cond, ◌&&◌, List, [], ℕ, eqb, length, take, drop}
+use Rattle.std.specs.Prelude.{cond, List, [], ℕ, eqb, length, take, drop}
 use Rattle.std.specs.Float.{binary64}
 use Rattle.std.specs.Float.Ieee.{of_bits}
 use Rattle.refusal.specs.Number.{number_of as refusal_number}

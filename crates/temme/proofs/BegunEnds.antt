@@ -1,10 +1,9 @@
 -- What Temme's seeds begin at a fraction from -1/2 to 1/2 and |z| ≤ 2 ends by its own test. Assumes nothing.
-use mathlib.Core.Path.{◌≡◌, refl, sym, subst}
-use mathlib.Core.Bool.{Bool, true, false, cond}
+use mathlib.Core.Path.{refl, sym, subst}
 use lib.Dec.{T}
 use lib.Ieee.{Float, binary64, of_bits, neg, add, le}
 use lib.Ieee.Positive.{positive, between}
-use Rattle.laws.proofs.Interval.{iv, In, add_i, checked, add-in, in-literals}
+use Rattle.laws.proofs.Interval.{iv, add_i, checked, add-in, in-literals}
 use Rattle.machine.specs.Small.{half, one, two}
 use Rattle.complex.specs.declared.number.Complex.{Complex}
 use Rattle.gamma_ln.proofs.Counts.{series-ends}

@@ -1,6 +1,6 @@
 -- `miller::backward::complex_steps` meets its contract. The invariant: the state is that of as many steps as it counts. Assumes nothing.
 use mathlib.Core.Path.{◌≡◌, ap, ◌∙◌}
-use Prim.Native.Nat.{◌+◌, ◌-◌}
+use Prim.Native.Nat.{◌+◌}
 use native.Mathlib.Omega.{arith}
 use Rattle.miller.specs.declared.backward.ComplexSteps.{ComplexSteps}
 use Rattle.miller.specs.Backward.{complex_first, complex_step, complex_steps}

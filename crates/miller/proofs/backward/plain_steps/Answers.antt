@@ -1,6 +1,6 @@
 -- `miller::backward::plain_steps` meets its contract. The invariant: the state is that of as many steps as it counts. Assumes nothing.
 use mathlib.Core.Path.{◌≡◌, ap, ◌∙◌}
-use Prim.Native.Nat.{ℕ, ◌+◌, ◌-◌}
+use Prim.Native.Nat.{ℕ, ◌+◌}
 use native.Mathlib.Omega.{arith}
 use Rattle.laws.specs.Iterate.{iterate}
 use Rattle.miller.specs.declared.backward.ComplexSteps.{ComplexSteps}

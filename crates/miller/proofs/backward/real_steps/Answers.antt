@@ -1,6 +1,6 @@
 -- `miller::backward::real_steps` meets its contract. The invariant: the state is that of as many steps as it counts. Assumes nothing.
 use mathlib.Core.Path.{◌≡◌, refl, sym, ap, ◌∙◌}
-use Prim.Native.Nat.{ℕ, ◌+◌, ◌-◌}
+use Prim.Native.Nat.{ℕ, ◌+◌}
 use native.Mathlib.Omega.{arith}
 use Rattle.laws.specs.Iterate.{iterate}
 use Rattle.laws.proofs.Iterate.{iterate-next}

@@ -1,5 +1,4 @@
 -- `recurrence::climb::climb` meets its contract: part after part, up to the whole. Assumes nothing.
-use Prim.Native.Nat.{◌-◌}
 use native.Mathlib.Nat.{le_refl}
 use native.Mathlib.Omega.{arith}
 use Rattle.recurrence.proofs.StretchFacts.{partway_start, partway-again, partway-whole}

@@ -1,7 +1,5 @@
 -- `recurrence::climb::stretch` meets its contract: turn after turn, on the state of its start. Assumes nothing.
 use mathlib.Core.Path.{refl, sym, ap, ◌∙◌, subst}
-use mathlib.Core.Bool.{false}
-use Prim.Native.Nat.{◌-◌}
 use native.Mathlib.Omega.{arith}
 use lib.Dec.{T}
 use lib.Ieee.{Float, binary64, of_bits, lt}

@@ -1,6 +1,5 @@
 -- `recurrence::search::search_from` meets its contract: what is left to search, from where the search stands, is the whole search. Assumes nothing.
 use mathlib.Core.Path.{sym, ap, ◌∙◌}
-use Prim.Native.Nat.{◌-◌}
 use native.Mathlib.Omega.{arith}
 use Rattle.recurrence.specs.declared.search.Search.{Search}
 use Rattle.recurrence.proofs.SearchFacts.{search_left, search-start, search-next, search-found, search-end, step-counted}

@@ -1,7 +1,7 @@
 -- `series_sum::sum::finish` meets its contract: before each turn what is left of the sum, from the state as it is, ends as it did at first.
 -- Assumes nothing.
 use mathlib.Core.Path.{refl, sym, ◌∙◌}
-use Prim.Native.Nat.{◌-◌, ◌<◌}
+use Prim.Native.Nat.{◌<◌}
 use native.Mathlib.Omega.{arith}
 use Rattle.series_sum.proofs.SumRun.{next-counts, rest-after, rest-stop}
 use Rattle.series_sum.proofs.sum.finish.Goals as goal

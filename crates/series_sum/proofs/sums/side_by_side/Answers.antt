@@ -1,7 +1,7 @@
 -- `series_sum::sums::side_by_side` meets its contract: before each turn what is left of each sum, from the states as they are, ends as it
 -- did at first. Assumes nothing.
 use mathlib.Core.Path.{◌≡◌, refl, sym, ◌∙◌}
-use Prim.Native.Nat.{◌-◌, ◌<◌}
+use Prim.Native.Nat.{◌<◌}
 use native.Mathlib.Omega.{arith}
 use Rattle.series_sum.proofs.SumRun.{next-counts, rest-after, both_go}
 use Rattle.series_sum.proofs.sums.side_by_side.Goals as goal

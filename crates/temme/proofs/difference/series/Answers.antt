@@ -1,6 +1,6 @@
 -- `temme::difference::series` meets its contract: before each turn the run that is left, from the state as it is, ends as the whole run does. Assumes nothing.
 use mathlib.Core.Path.{◌≡◌, refl, sym, ap, ◌∙◌}
-use Prim.Native.Nat.{◌+◌, ◌-◌, ◌<◌}
+use Prim.Native.Nat.{◌+◌, ◌<◌}
 use native.Mathlib.Omega.{arith}
 use lib.Ieee.{Float}
 use Rattle.temme.specs.declared.difference.Partial.{Partial}

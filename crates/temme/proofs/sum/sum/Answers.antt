@@ -1,6 +1,6 @@
 -- `temme::sum::sum` meets its contract: before each turn the run that is left, from the state as it is, ends as the whole run does. Assumes nothing.
 use mathlib.Core.Path.{◌≡◌, refl, sym, ap, ◌∙◌}
-use Prim.Native.Nat.{◌+◌, ◌-◌, ◌<◌}
+use Prim.Native.Nat.{◌+◌, ◌<◌}
 use native.Mathlib.Omega.{arith}
 use Rattle.machine.specs.Constants.{tolerance}
 use Rattle.temme.specs.declared.sum.Fixed.{Fixed}

@@ -1,5 +1,7 @@
 // The C boundary, which crate capi_c exports. Numbers pass as themselves, records by value. Each function has the whole contract of the routine behind it:
 // its result is that routine's definition, for every argument, not-a-number and infinities included.
+#![tactic(auto)]
+
 ghost use Rattle.std.specs.Prelude.{◌≡◌, length};
 ghost use Rattle.roots.specs.Sqrt.{sqrt_of};
 ghost use Rattle.roots.specs.Hypot.{hypot_of};

@@ -1,0 +1,9 @@
+-- `lichenoar_i` meets its contract: the library's answer, its record projected. Assumes nothing.
+use mathlib.Core.Path.{ap, ◌∙◌}
+use Rattle.capi.specs.Outcome.{answer_of}
+use Rattle.capi.proofs.lichenoar_i.Goals as goal
+
+pub returns : goal.returns
+returns c =
+    let d = c.i.ensures in
+    (c.projected.ensures ∙ ap answer_of d.0, d.1)

@@ -3,7 +3,6 @@ use mathlib.Core.Path.{◌≡◌, refl, sym}
 use mathlib.Core.Bool.{Bool, true, false, not, ◌&&◌}
 use mathlib.Core.List.{◌++◌}
 use Prim.Native.Nat.{ℕ, ◌/◌}
-use lib.Ieee.{Float}
 use Rattle.call.specs.declared.checks.Verdict.TheVariants.{Admitted}
 use Rattle.call.specs.Limits.{length_inside, are_finite}
 use Rattle.call.specs.Checks.{verdict_of, none_applies, length_checks, finite_checks, limit_checks}

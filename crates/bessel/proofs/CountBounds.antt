@@ -1,10 +1,10 @@
 -- How large the counts of any outcome of K and of the power series can be, a refusal's too: each fits two bytes. Assumes nothing.
-use mathlib.Core.Path.{◌≡◌, refl, sym, ap, ◌∙◌, subst}
-use mathlib.Core.Logic.{◌⊎◌, inl, inr}
+use mathlib.Core.Path.{◌≡◌, ap}
+use mathlib.Core.Logic.{inl, inr}
 use mathlib.Core.Bool.{Bool}
 use Prim.Native.Nat.{ℕ, ◌+◌, ◌-◌, ◌/◌, ◌≤◌}
 use native.Mathlib.Omega.{arith}
-use lib.IntN.{ℤ, pos, nat_abs}
+use lib.IntN.{nat_abs}
 use lib.Ieee.{Float}
 use Rattle.call.specs.declared.answer.Answer.{Answer}
 use Rattle.call.specs.Answer.{answered_of}
@@ -13,7 +13,7 @@ use Rattle.right_half_plane.specs.Ground.{nearest_order}
 use Rattle.right_half_plane.proofs.OrderFacts.{order-cast}
 use Rattle.bessel.specs.Arguments.{arguments_of}
 use Rattle.bessel.specs.Outcome.{Outcome}
-use Rattle.bessel.specs.Series.{visit_answer, visited_by, series_outcome}
+use Rattle.bessel.specs.Series.{visit_answer, series_outcome}
 use Rattle.bessel.specs.K.{counts_answer, k_outcome}
 use Rattle.bessel.proofs.CallFacts.{RefusedWhole}
 use Rattle.bessel.proofs.CheckFacts.{k-passed, series-passed}

@@ -2,10 +2,9 @@
 use mathlib.Core.Path.{◌≡◌, refl, sym, ap, ◌∙◌, subst}
 use mathlib.Core.Bool.{Bool, true, false}
 use mathlib.Core.List.{List}
-use Prim.Native.Nat.{ℕ, ◌*◌, ◌/◌, ◌≤◌}
+use Prim.Native.Nat.{ℕ, ◌/◌, ◌≤◌}
 use native.Mathlib.Omega.{arith}
 use lib.IntN.{ℤ}
-use lib.ListN.{length as length-of}
 use lib.Ieee.{Float}
 use Rattle.complex.specs.declared.number.Complex.{Complex}
 use Rattle.right_half_plane.specs.declared.kernel.Counts.{Counts}
@@ -17,7 +16,7 @@ use Rattle.call.specs.declared.answer.Answer.{Answer}
 use Rattle.call.specs.Limits.{length_inside}
 use Rattle.call.specs.Answer.{signed_of, answered_of}
 use Rattle.call.proofs.LimitFacts.{lent}
-use Rattle.bessel.specs.Outcome.{Outcome, judged_of, concluded_of}
+use Rattle.bessel.specs.Outcome.{judged_of, concluded_of}
 use Rattle.bessel.specs.K.{counts_answer, kernel_steps, Fewer}
 
 -- the zeros of an answer into a buffer that is let in

@@ -1,13 +1,13 @@
 -- Every log-gamma that an answered call by the power series asks for is of an argument above zero, and its series ends by its own test. Assumes nothing.
-use mathlib.Core.Path.{◌≡◌, refl, sym, ap, subst}
-use mathlib.Core.Bool.{Bool, true, false}
-use Prim.Native.Nat.{ℕ, suc, ◌-◌, ◌/◌, ◌≤◌, ◌<◌}
+use mathlib.Core.Path.{◌≡◌, refl, sym, subst}
+use mathlib.Core.Bool.{Bool, false}
+use Prim.Native.Nat.{ℕ, ◌-◌, ◌/◌, ◌≤◌}
 use native.Mathlib.Omega.{arith}
 use borrow.Author.Tests.{lt-ltb, le-ltb}
 use lib.IntN.{pos}
-use lib.Dec.{T, ltb, lit<}
+use lib.Dec.{T}
 use lib.Ieee.{Float, binary64, of_bits, of_int, add, le, lt}
-use lib.Ieee.Positive.{num, den, positive, between}
+use lib.Ieee.Positive.{positive, between}
 use Rattle.laws.proofs.Run.{run_ends}
 use Rattle.laws.proofs.Relative.{nonnegative}
 use Rattle.laws.proofs.Bound.{nonnegative-le, lo-test, up-lo-le}

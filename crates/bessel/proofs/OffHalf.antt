@@ -1,7 +1,7 @@
 -- Off ±1/2 neither of the Rust text's further tests holds in a call of K that passes its checks: the rotation |cos(π fraction)| and the distance |1/4 - fraction²| are not zero. Assumes nothing.
 use mathlib.Core.Path.{◌≡◌}
 use mathlib.Core.Bool.{true, false}
-use Prim.Native.Nat.{ℕ, ◌/◌}
+use Prim.Native.Nat.{ℕ}
 use lib.Dec.{T}
 use lib.Ieee.{Float, binary64, fits, eq}
 use lib.Ieee.Fits.{sub-fits}

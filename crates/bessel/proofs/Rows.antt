@@ -1,7 +1,7 @@
 -- Calls whose outcome is computed from the definitions. Assumes nothing.
-use mathlib.Core.Path.{◌≡◌, refl, ap, ◌∙◌}
-use mathlib.Core.Bool.{Bool, true, false}
-use mathlib.Core.List.{List, [], ◌∷◌, ◌++◌}
+use mathlib.Core.Path.{◌≡◌, refl}
+use mathlib.Core.Bool.{Bool, true}
+use mathlib.Core.List.{[], ◌∷◌}
 use Prim.Native.Nat.{ℕ}
 use lib.IntN.{pos}
 use lib.Ieee.{Float, nan, binary64, of_bits, of_int, round, size, neg, add, mul, eq, le, lt}
@@ -10,10 +10,10 @@ use Rattle.machine.specs.Small.{nothing, one}
 use Rattle.cells.specs.AllFinite.{all_finite}
 use Rattle.refusal.specs.declared.refusal.Refusal.{Refusal}
 use Rattle.refusal.specs.declared.refusal.Refusal.TheVariants.{Length, NotFinite, Sign, Series}
-use Rattle.call.specs.declared.checks.Verdict.TheVariants.{Admitted, Refused}
+use Rattle.call.specs.declared.checks.Verdict.TheVariants.{Refused}
 use Rattle.call.specs.Answer.{answered_of}
 use Rattle.call.specs.Limits.{normalised_of, length_inside, are_finite, order_inside, sign_inside, part_inside, size_inside}
-use Rattle.call.specs.Checks.{Check, refused_if, verdict_from, verdict_of, length_checks, finite_checks, limit_checks}
+use Rattle.call.specs.Checks.{refused_if, verdict_from, verdict_of, length_checks, finite_checks, limit_checks}
 use Rattle.call.proofs.FirstFacts.{verdict-append, stays}
 use Rattle.roots.specs.Hypot.{hypot_of}
 use Rattle.machine.specs.Magnitude.{magnitude_of}
@@ -22,13 +22,12 @@ use Rattle.series_step.specs.Setting.{order_at, order_plus_one}
 use Rattle.power_series.specs.Series.{beyond_series}
 use Rattle.power_series.specs.Tiny.{lowest_of, zeros_of, tiny_of}
 use Rattle.power_series.specs.Series.{power_series_if, power_series_of}
-use Rattle.bessel.specs.declared.arguments.Arguments.{Arguments}
 use Rattle.bessel.specs.Arguments.{arguments_of}
 use Rattle.bessel.specs.Checks.{argument_checks, k_checks, series_own_checks, series_checks}
 use Rattle.bessel.specs.Outcome.{refused_outcome, judged_if, judged_of, concluded_of, outcome_by, call_outcome}
 use Rattle.bessel.specs.Series.{visited_by, visit_answer, visit_steps, series_outcome}
 use Rattle.bessel.specs.I.{i_outcome}
-use Rattle.bessel.specs.K.{k_steps, k_outcome}
+use Rattle.bessel.specs.K.{k_outcome}
 
 -- ---- I at z = 0, v = 1, n = 2: zeros, and none is counted
 pub at_zero : (scaled : Bool) → i_outcome scaled one nothing nothing 4 ≡ record { answer = answered_of (pos 0) 0 0 0; cells = nothing ∷ nothing ∷ nothing ∷ nothing ∷ [] }

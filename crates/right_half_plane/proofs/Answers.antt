@@ -8,9 +8,7 @@ use lib.Dec.{eqb}
 use borrow.Author.Tests.{eqb-true, eqb-false}
 use lib.Ieee.{Float}
 use Rattle.complex.specs.declared.number.Complex.{Complex}
-use Rattle.refusal.specs.declared.refusal.Refusal.{Refusal}
 use Rattle.refusal.specs.declared.refusal.Refusal.TheVariants as refusals
-use Rattle.recurrence.specs.declared.state.Climb.{Climb}
 use Rattle.right_half_plane.specs.declared.ground.Ground.{Ground}
 use Rattle.right_half_plane.specs.declared.seeds.Seeds.{Seeds}
 use Rattle.right_half_plane.specs.declared.seeds.Seeds.TheVariants as seeds
@@ -21,11 +19,11 @@ use Rattle.right_half_plane.specs.declared.kernel.Ending.{Ending}
 use Rattle.right_half_plane.specs.declared.kernel.Ending.TheVariants.{Answered, Refused}
 use Rattle.right_half_plane.specs.Ground.{nearest_order, ground_of, is_alone}
 use Rattle.right_half_plane.specs.Seeds.{seed_of}
-use Rattle.right_half_plane.specs.Reach.{steps_of, reach_of}
+use Rattle.right_half_plane.specs.Reach.{steps_of}
 use Rattle.right_half_plane.specs.Kernel.{lead_kernel, refused_kernel, reached_kernel, pair_kernel, finished_kernel, seeds_kernel, kernel_of}
 use Rattle.right_half_plane.proofs.Counts.{Arrives, reach-arrives}
 use Rattle.right_half_plane.proofs.LeadFacts.{on-scale-rungs, first-rungs}
-use Rattle.right_half_plane.proofs.SeedFacts.{Kind, Seeding, seeding, few-terms}
+use Rattle.right_half_plane.proofs.SeedFacts.{Kind, seeding, few-terms}
 
 -- r + n - 2 rungs, which is none for r = 0 and n = 1; refusals 6 and 7 alone
 abbrev pub Answers : ℕ → ℕ → Ending → Type 0

@@ -1,7 +1,7 @@
 -- The climb out of underflow resumes at the offset behind its rungs; to the first order wanted there are r rungs, or r - 1. Assumes nothing.
-use mathlib.Core.Path.{◌≡◌, refl, sym, ap, ◌∙◌, subst}
+use mathlib.Core.Path.{◌≡◌, refl, sym, ◌∙◌, subst}
 use mathlib.Core.Bool.{Bool, true, false, ◌&&◌, ◌||◌, cond}
-use Prim.Native.Nat.{ℕ, ◌+◌, ◌-◌, ◌≤◌, ◌<◌}
+use Prim.Native.Nat.{ℕ, ◌+◌, ◌-◌, ◌≤◌}
 use native.Mathlib.Omega.{arith}
 use lib.Dec.{eqb, ltb}
 use borrow.Author.Tests.{eqb-true}
@@ -9,7 +9,6 @@ use lib.Ieee.{Float}
 use Rattle.laws.specs.Operators.{◌⊖◌}
 use Rattle.machine.specs.Small.{one}
 use Rattle.complex.specs.declared.number.Complex.{Complex}
-use Rattle.refusal.specs.declared.refusal.Refusal.{Refusal}
 use Rattle.refusal.specs.declared.refusal.Refusal.TheVariants as refusals
 use Rattle.recurrence.specs.Climb.{climb_from}
 use Rattle.recurrence.specs.Trial.{failed_trial}

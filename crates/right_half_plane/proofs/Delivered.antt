@@ -2,7 +2,7 @@
 -- Assumes nothing.
 use mathlib.Core.Path.{◌≡◌, refl, sym, ap, ◌∙◌}
 use mathlib.Core.Bool.{Bool}
-use mathlib.Core.List.{List, [], ◌∷◌, ◌++◌}
+use mathlib.Core.List.{List, ◌++◌}
 use mathlib.Core.Logic.{◌⊎◌, inl, inr}
 use Prim.Native.Nat.{ℕ, zero, suc, ◌+◌, ◌-◌, ◌*◌, ◌≤◌}
 use native.Mathlib.Omega.{arith}
@@ -27,7 +27,7 @@ use Rattle.right_half_plane.specs.declared.kernel.Ending.TheVariants.{Answered, 
 use Rattle.right_half_plane.specs.Ground.{ground_of}
 use Rattle.right_half_plane.specs.Seeds.{seed_of}
 use Rattle.right_half_plane.specs.Lead.{on_scale_lead}
-use Rattle.right_half_plane.specs.Kernel.{Kernel, rest_of, lead_cells, lead_kernel, refused_kernel, reached_kernel, pair_kernel, finished_kernel, seeds_kernel, kernel_of}
+use Rattle.right_half_plane.specs.Kernel.{rest_of, lead_cells, lead_kernel, refused_kernel, reached_kernel, pair_kernel, finished_kernel, seeds_kernel, kernel_of}
 use Rattle.right_half_plane.proofs.Counts.{Arrives, reach-arrives}
 use Rattle.right_half_plane.proofs.LeadFacts.{lead-zeros}
 use Rattle.right_half_plane.proofs.SeedFacts.{Kind, seeding}

@@ -1,19 +1,18 @@
 -- The leading digits of a value are close to it: by at most 2^27 steps of the value's binade. Assumes nothing.
 use mathlib.Core.Path.{◌≡◌, refl, sym, ap, ◌∙◌, subst}
-use mathlib.Core.Bool.{Bool, true, false}
+use mathlib.Core.Bool.{false}
 use Prim.Native.Nat.{ℕ, zero, suc, ◌+◌, ◌-◌, ◌*◌, ◌/◌, ◌%◌, ◌^◌, ◌≤◌, ◌<◌}
 use native.Mathlib.Nat.{mul-le-mul_left, mul-le-mul_right, mul-pos, add-mul}
 use native.Mathlib.Omega.{arith}
 use lib.Dec.{T, lit<}
 use lib.Pow.{pow_pos, pow_mono, pow-add}
 use lib.Ieee.{Float, binary64, fits, of_bits, to_bits, neg, le}
-use lib.Ieee.Bits.{of_bits-to_bits}
 use lib.Ieee.Exact.{HasValue}
 use lib.Ieee.Scale.{finite}
 use Rattle.laws.specs.Operators.{◌⊖◌}
 use Rattle.laws.proofs.Value.{sign, finite-no-nan}
 use Rattle.laws.proofs.Sign.{neg_value}
-use Rattle.laws.proofs.Order.{nought, Rounds, rounds-mono, neg-anti}
+use Rattle.laws.proofs.Order.{nought, Rounds, rounds-mono}
 use Rattle.laws.proofs.Grid.{Is, is-plus, is-less, is-sub}
 use Rattle.laws.proofs.Bits.{inf_bits, field_units, units_of, units-at, units-le, bits-le, bits-value, pattern-value, to_bits-finite, to_bits-value, to_bits-neg, of_bits-neg, cut, cut-le, cut-neg}
 use Rattle.circular.specs.Reduce.{leading}

@@ -1,10 +1,9 @@
 -- The modulus of an argument whose parts are at most 2^15 in magnitude has no minus sign, and is at most 2^16. Assumes nothing.
-use mathlib.Core.Path.{◌≡◌, refl, sym, ap, ◌∙◌, subst}
+use mathlib.Core.Path.{◌≡◌, refl, sym, subst}
 use mathlib.Core.Bool.{Bool, true, false}
-use Prim.Native.Nat.{ℕ, zero, suc, ◌+◌, ◌-◌, ◌*◌, ◌^◌, ◌≤◌, ◌<◌}
-use native.Mathlib.Nat.{le_trans, le_of_eq, zero-lt-suc, mul-one, one-mul, mul_assoc, mul_comm, mul_left_comm, mul_right_comm, mul-mul-mul_comm, mul-pos, mul-le-mul, mul-le-mul_left, mul-le-mul_right, le_of_mul-le-mul_right, le-add_right}
+use Prim.Native.Nat.{ℕ, zero, suc, ◌+◌, ◌*◌, ◌^◌, ◌≤◌, ◌<◌}
+use native.Mathlib.Nat.{le_trans, le_of_eq, zero-lt-suc, mul-one, one-mul, mul_assoc, mul_comm, mul_left_comm, mul-mul-mul_comm, mul-pos, mul-le-mul, mul-le-mul_left, mul-le-mul_right, le_of_mul-le-mul_right}
 use native.Mathlib.Omega.{arith}
-use lib.IntN.{ℤ}
 use lib.Dec.{T, lit<, lit≤}
 use lib.Pow.{pow_pos}
 use lib.Ieee.{Float, nan, inf, fin, binary64, up, down, round, size, add, mul, le, of_bits, to_bits, fits}
@@ -17,10 +16,9 @@ use Rattle.laws.proofs.Relative.{round-finite, round-nonnegative, positive-nonne
 use Rattle.laws.proofs.Bound.{Up, Lo, up-test, lo-test, up-weaken, up-of-le, up-finite, lo-of-le, lo-bound, lo-positive, up-lo-le, range-test, mul-up, add-up}
 use Rattle.machine.specs.Magnitude.{magnitude_of}
 use Rattle.roots.specs.Hypot.{root_at, sum_of_squares, least_sum, greatest_sum, larger, smaller, scaled_hypot, full_hypot, hypot_of}
-use Rattle.roots.proofs.HypotCases.{full-within, full-above, full-below}
-use Rattle.roots.proofs.HypotSum.{Summed, square-round}
-use Rattle.roots.proofs.HypotParts.{Part}
-use Rattle.roots.proofs.HypotScaled.{Scaled, square_by, scaled-up}
+use Rattle.roots.proofs.HypotCases.{full-within, full-below}
+use Rattle.roots.proofs.HypotSum.{square-round}
+use Rattle.roots.proofs.HypotScaled.{square_by, scaled-up}
 use Rattle.roots.proofs.HypotRoot.{from-squares, root-close}
 
 -- ---- the root of a value up to P is at most R, where P is a little below R squared

@@ -1,11 +1,11 @@
 -- Off ±1/2 the distance of Miller's steps, |1/4 - fraction²|, is not zero: a fraction is then at most the f64 below 1/2 in magnitude. Assumes nothing.
-use mathlib.Core.Path.{◌≡◌, refl, sym, ap, ◌∙◌, subst}
+use mathlib.Core.Path.{◌≡◌, refl, sym, subst}
 use mathlib.Core.Bool.{Bool, true, false, ◌||◌, cond}
 use mathlib.Core.List.{[], ◌∷◌}
 use Prim.Native.Nat.{ℕ, ◌≤◌, ◌<◌}
 use native.Mathlib.Omega.{arith}
 use lib.Dec.{T, lit<, lit≤}
-use lib.Ieee.{Float, nan, inf, fin, binary64, fits, of_bits, to_bits, neg, sub, mul, lt, le, eq}
+use lib.Ieee.{Float, nan, inf, fin, binary64, fits, of_bits, to_bits, neg, sub, lt, le, eq}
 use lib.Ieee.Bits.{of_bits-to_bits}
 use lib.Ieee.Positive.{positive, between}
 use lib.Ieee.Scale.{finite}
@@ -13,10 +13,10 @@ use Rattle.laws.specs.Operators.{◌⊖◌, ◌⊗◌}
 use Rattle.laws.proofs.Value.{sign}
 use Rattle.laws.proofs.Order.{nought, le-trans-float, finite-between, neg-anti, neg-finite, Le, le→Le}
 use Rattle.laws.proofs.Sign.{le-neg-l}
-use Rattle.laws.proofs.Bits.{inf_bits, bare-fits, bits-le, lt→to_bits, to_bits-back, to_bits-finite}
+use Rattle.laws.proofs.Bits.{bare-fits, bits-le, lt→to_bits, to_bits-back}
 use Rattle.laws.proofs.Relative.{nonnegative, positive-num}
 use Rattle.laws.proofs.Bound.{nonnegative-le}
-use Rattle.laws.proofs.Interval.{iv, In, Expr, var, lit, difference, product, eval, passes, bounded, in-literals}
+use Rattle.laws.proofs.Interval.{iv, In, Expr, var, lit, difference, product, eval, passes, bounded}
 use Rattle.machine.specs.Constants.{tolerance}
 use Rattle.machine.specs.Small.{nothing, quarter, half}
 use Rattle.machine.specs.Magnitude.{magnitude_of}

@@ -1,12 +1,11 @@
 -- The order rounded is a whole number of at most 1,000, so that it is cast to an integer as it is. Assumes nothing.
-use mathlib.Core.Path.{◌≡◌, refl, sym, subst}
+use mathlib.Core.Path.{refl, sym, subst}
 use Prim.Native.Nat.{ℕ, ◌+◌, ◌*◌, ◌^◌, ◌≤◌, ◌<◌}
 use native.Mathlib.Nat.{mul-le-mul_right}
 use native.Mathlib.Omega.{arith}
 use mathlib.Core.Bool.{Bool, true, false, not}
-use lib.IntN.{pos}
 use lib.Dec.{T, leb, le→leb, leb→le, nleb→lt}
-use lib.Ieee.{Float, binary64, of_bits, le, round, of_int, in_float, to_unsigned, in_unsigned}
+use lib.Ieee.{Float, binary64, of_bits, le, of_int, in_float, to_unsigned, in_unsigned}
 use lib.Ieee.Back.{unsigned_back}
 use lib.Ieee.Positive.{num, den, den_pos}
 use Rattle.laws.proofs.Relative.{nonnegative, nonnegative-value}

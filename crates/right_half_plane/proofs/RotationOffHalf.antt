@@ -5,7 +5,7 @@ use mathlib.Core.Bool.{Bool, true, false, ◌&&◌, not, cond}
 use mathlib.Core.List.{[], ◌∷◌}
 use Prim.Native.Nat.{ℕ, suc, ◌+◌, ◌-◌, ◌*◌, ◌/◌, ◌%◌, ◌^◌, ◌≤◌, ◌<◌, zero-le}
 use native.Mathlib.Omega.{arith}
-use lib.Dec.{T, leb, leb→le, nleb→lt, lit<, lit≤}
+use lib.Dec.{T, leb, leb→le, nleb→lt, lit<}
 use lib.Ieee.{Float, nan, inf, fin, binary64, fits, of_bits, to_bits, neg, sub, mul, add, rem, lt, le, eq}
 use lib.Ieee.Bits.{of_bits-to_bits}
 use lib.Ieee.Fits.{and_l, and_r, add-fits, sub-fits, neg-fits}
@@ -16,7 +16,7 @@ use Rattle.laws.proofs.Value.{sign, bare}
 use Rattle.laws.proofs.Order.{nought, neg-anti, le-trans-float, lt→le, finite-between}
 use Rattle.laws.proofs.Sign.{neg-neg}
 use Rattle.laws.proofs.Bound.{every, every-at}
-use Rattle.laws.proofs.Interval.{iv, In, Expr, var, lit, sum, difference, product, share, eval, passes, Between, bounded, in-literals}
+use Rattle.laws.proofs.Interval.{iv, In, Expr, var, lit, sum, difference, product, share, eval, passes, bounded, in-literals}
 use Rattle.laws.proofs.Bits.{inf_bits, bits-le, bits-between}
 use Rattle.circular.specs.declared.reduce.Reduced.{Reduced}
 use Rattle.circular.specs.Kernel.{sine_kernel, cosine_kernel, turned}

@@ -1,22 +1,18 @@
 -- What the seed stage gives: one finished value only where r = 0 and n = 1, at most 256 backward steps, at most 18 terms of Temme's sum, and of the refusals 6 alone. Assumes nothing.
 use mathlib.Core.Path.{◌≡◌, refl, sym, subst}
 use mathlib.Core.Bool.{Bool, true, false, not, ◌&&◌, cond}
-use Prim.Native.Nat.{ℕ, ◌≤◌, zero-le}
-use lib.Dec.{T, lit≤}
-use lib.Ieee.{Float, le}
+use Prim.Native.Nat.{◌≤◌, zero-le}
+use lib.Dec.{T}
+use lib.Ieee.{le}
 use Rattle.machine.specs.Small.{two}
 use Rattle.complex.specs.declared.number.Complex.{Complex}
-use Rattle.complex.specs.Functions.{argument_of, complex_ln_of, complex_exp_of, complex_cosh_of, complex_sinh_of}
-use Rattle.complex.specs.Arithmetic.{times_real}
+use Rattle.complex.specs.Functions.{argument_of, complex_ln_of}
 use Rattle.roots.specs.Sqrt.{sqrt_of}
 use Rattle.refusal.specs.declared.refusal.Refusal.TheVariants as refusals
 use Rattle.recurrence.specs.State.{scale_of}
 use Rattle.recurrence.specs.declared.state.OverflowState.TheVariants.{None}
 use Rattle.temme.specs.declared.seeds.Temme.{Temme}
-use Rattle.temme.specs.declared.sum.Terms.{Terms}
-use Rattle.temme.specs.Gammas.{gammas_of}
-use Rattle.temme.specs.Sum.{sum_of}
-use Rattle.temme.specs.Seeds.{shinc_of, fixed_of, start_of, summed_of, seeds_of}
+use Rattle.temme.specs.Seeds.{seeds_of}
 use Rattle.temme.proofs.TemmeBound.{seeds-terms}
 use Rattle.miller.specs.declared.seeds.MillerSeeds as found
 use Rattle.miller.specs.Seeds as miller

@@ -7,7 +7,7 @@ use native.Mathlib.Nat.{le_trans, le_of_eq, le_of_lt, mul-one, mul_assoc, mul_co
 use native.Mathlib.Omega.{arith}
 use lib.Dec.{T, lit<, lit≤}
 use lib.Pow.{pow_pos}
-use lib.Ieee.{Float, nan, inf, fin, binary64, up, down, round, size, neg, add, mul, lt, le, eq, of_bits, to_bits, fits}
+use lib.Ieee.{Float, nan, inf, fin, binary64, up, down, round, size, add, mul, lt, le, eq, of_bits, to_bits, fits}
 use lib.Ieee.Fits.{down_pos, add-fits}
 use lib.Ieee.Positive.{num, den, positive, den_pos}
 use lib.Ieee.Scale.{finite}
@@ -19,17 +19,17 @@ use Rattle.roots.specs.Hypot.{root_at, sum_of_squares, least_sum, greatest_sum, 
 use Rattle.roots.specs.Close.{squares_over, squares_under}
 use Rattle.roots.proofs.WholeRoot.{which}
 use Rattle.roots.proofs.HypotCases.{sum-parts, within-range, full-within, full-above}
-use Rattle.roots.proofs.HypotSum.{Summed, square-round}
+use Rattle.roots.proofs.HypotSum.{square-round}
 use Rattle.roots.proofs.HypotRange.{below-ceiling}
 use Rattle.roots.proofs.HypotRoot.{from-squares, root-close}
-use Rattle.roots.proofs.HypotScaled.{Scaled, square_by, summed-is, large_sum, scaled-down}
+use Rattle.roots.proofs.HypotScaled.{square_by, summed-is, large_sum, scaled-down}
 use Rattle.roots.proofs.HypotFacts.{hypot-close}
 use Rattle.roots.proofs.HypotValues.{hypot-symmetric}
 use Rattle.complex.specs.declared.number.Complex.{Complex}
 use Rattle.complex.specs.Functions.{modulus_of}
 use Rattle.machine.specs.Magnitude.{magnitude_of}
 use Rattle.machine.proofs.MagnitudeFacts.{bare-is}
-use Rattle.machine.specs.Small.{nothing, two}
+use Rattle.machine.specs.Small.{two}
 use Rattle.right_half_plane.proofs.ModulusBound.{modulus-up}
 
 -- 1.40625 and 2.25

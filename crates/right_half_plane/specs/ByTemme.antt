@@ -1,6 +1,6 @@
 -- Seeds for |z| to 2, by Temme's sum: ZBKNU before its label 110 (zbknu.f); `k_right_half_plane` of src/amos/right_half_plane.rs. The sum itself is
 -- crate temme's. Definitions only.
-use Rattle.std.specs.Prelude.{Bool, true, false, cond, Float}
+use Rattle.std.specs.Prelude.{Bool, false, cond, Float}
 use Rattle.std.specs.Float.Ieee.{lt}
 use Rattle.laws.specs.Operators.{◌⊕◌, ◌⊗◌}
 use Rattle.machine.specs.Constants.{approximation_limit}

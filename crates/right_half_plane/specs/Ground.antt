@@ -1,7 +1,6 @@
 -- What a K call on n orders works out once. Definitions only.
 use Rattle.std.specs.Prelude.{ℕ, ◌≤◌, ◌<◌, Bool, ◌&&◌, eqb, Float}
-use Rattle.std.specs.Float.{binary64}
-use Rattle.std.specs.Float.Ieee.{of_bits, to_unsigned}
+use Rattle.std.specs.Float.Ieee.{to_unsigned}
 use Rattle.laws.specs.Operators.{◌⊖◌}
 use Rattle.rounding.specs.Round.{round_of}
 use Rattle.complex.specs.declared.number.Complex.{Complex}

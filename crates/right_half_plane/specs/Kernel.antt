@@ -6,7 +6,6 @@ use Rattle.machine.specs.Small.{nothing, one}
 use Rattle.complex.specs.declared.number.Complex.{Complex}
 use Rattle.refusal.specs.declared.refusal.Refusal.{Refusal}
 use Rattle.recurrence.specs.Fill.{fill_from}
-use Rattle.recurrence.specs.declared.state.Climb.{Climb}
 use Rattle.right_half_plane.specs.declared.ground.Ground.{Ground}
 use Rattle.right_half_plane.specs.declared.seeds.Seeds.{Seeds}
 use Rattle.right_half_plane.specs.declared.seeds.Seeds.TheVariants as seeds

@@ -1,6 +1,6 @@
 -- The zeros before the first order on scale, the first two entries after them, and the climb that goes on from there: ZBKNU's labels 240 and 270
 -- (zbknu.f); `k_right_half_plane` of src/amos/right_half_plane.rs. Definitions only.
-use Rattle.std.specs.Prelude.{ℕ, ◌+◌}
+use Rattle.std.specs.Prelude.{◌+◌}
 use Rattle.machine.specs.Constants.{tolerance}
 use Rattle.complex.specs.Arithmetic.{times_real}
 use Rattle.recurrence.specs.State.{reciprocal_of}

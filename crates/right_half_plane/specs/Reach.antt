@@ -1,6 +1,6 @@
 -- The climb from the seeds to the first order wanted: ZBKNU from label 210 to label 240 (zbknu.f), with the climb out of underflow where it is marked;
 -- `k_right_half_plane` of src/amos/right_half_plane.rs. Definitions only.
-use Rattle.std.specs.Prelude.{ℕ, ◌+◌, ◌-◌, ◌≤◌, Bool, ◌&&◌, cond, eqb, ltb, Float}
+use Rattle.std.specs.Prelude.{ℕ, ◌+◌, ◌-◌, ◌≤◌, Bool, ◌&&◌, cond, eqb, ltb}
 use Rattle.laws.specs.Operators.{◌⊖◌}
 use Rattle.machine.specs.Small.{one}
 use Rattle.recurrence.specs.Climb.{climb_from}

@@ -10,7 +10,6 @@ use Rattle.recurrence.specs.declared.state.OverflowState.TheVariants.{NearUnder}
 use Rattle.recurrence.specs.declared.search.Search.{Search}
 use Rattle.recurrence.specs.declared.search.Rule.TheVariants.{OutOfUnderflow}
 use Rattle.refusal.specs.declared.refusal.Refusal.TheVariants.{Climb}
-use Rattle.right_half_plane.specs.declared.recover.Resumed.{Resumed}
 use Rattle.right_half_plane.specs.declared.recover.Recovered.{Recovered}
 use Rattle.right_half_plane.specs.declared.recover.Recovered.TheVariants.{Neighbours, Refused}
 

@@ -21,7 +21,8 @@ quadratic c0 c1 c2 d = sub binary64 (add binary64 c0 (mul binary64 c1 d)) (mul b
 
 -- the root of the argument to some 27 digits
 unfoldable pub seed_of : ℕ → Float
-seed_of w = quadratic (get_or constants (w / 2 ^ 46) nan) (get_or slopes (w / 2 ^ 46) nan) (get_or bends (w / 2 ^ 46) nan) (sub binary64 (argument w) (left_end w))
+seed_of w =
+    quadratic (get_or constants (w / 2 ^ 46) nan) (get_or slopes (w / 2 ^ 46) nan) (get_or bends (w / 2 ^ 46) nan) (sub binary64 (argument w) (left_end w))
 
 -- s + f / s is twice what one Heron step makes of the seed s
 unfoldable pub twice_root : ℕ → Float

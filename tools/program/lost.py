@@ -131,15 +131,16 @@ def main():
         assert err == UNWRITTEN and said == b"1\n", ("a short write", err, said)
         if NAME == "morning":
             assert run_broken_off(folder) == [0, b"", UNREAD, b"1\n"], "an input that fails behind some lines"
-        # a reader that goes away ends the program by its signal, with no status
+        # a reader that goes away is a write that fails: the kit's programs ignore the signal
         with open(os.path.join(folder, "in"), "wb") as f:
             f.write(ALL * MANY)
         script = 'cd "$0" && "$@" < in 3> status | head -n 1 > out; echo "${PIPESTATUS[0]}"'
         if NAME == "morning":
             # a pipe would hold the page: here its reader is gone before
             script = 'cd "$0" && mkfifo gone && exec 4<> gone 5> gone 4<&- && "$@" < in 3> status >&5 5>&-; echo "$?"'
-        done = subprocess.run(["bash", "-c", script, folder, *PROGRAM], stdout=subprocess.PIPE)
-        assert done.stdout == b"141\n" and open(os.path.join(folder, "status"), "rb").read() == b"", ("a reader gone", done.stdout)
+        done = subprocess.run(["bash", "-c", script, folder, *PROGRAM], stdout=subprocess.PIPE, stderr=subprocess.PIPE)
+        assert done.stdout == b"0\n" and open(os.path.join(folder, "status"), "rb").read() == b"1\n", ("a reader gone", done.stdout)
+        assert done.stderr == UNWRITTEN, ("a reader gone", "standard error", done.stderr)
     print("lost.py: %d runs, each told as docs/DECISIONS.md says" % (len(CASES) + 2 + (NAME == "morning")))
 
 

@@ -1,7 +1,6 @@
 -- Complex arithmetic, as pairs of f64 parts: the definitions that the contracts of crate complex name, written out. Each ⊕, ⊖, ⊗ and ⊘ is one f64 operation,
 -- rounded once. Assumes nothing.
 use mathlib.Core.Path.{◌≡◌, refl}
-use Prim.Native.Nat.{ℕ, suc}
 use lib.Ieee.{Float}
 use Rattle.laws.specs.Operators.{◌⊕◌, ◌⊖◌, ◌⊗◌, ◌⊘◌}
 use Rattle.laws.specs.Iterate.{iterate}

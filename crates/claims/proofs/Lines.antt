@@ -6,14 +6,12 @@ use Prim.Native.Nat.{ℕ, ◌*◌}
 use lib.Dec.{T, lit<, eqb, eqb→eq}
 use lib.Ieee.Fits.{and_l, and_r}
 use lib.ListN.{take}
-use Rattle.refusal.specs.Number.{number_of as refusal-number}
-use Rattle.refusal.specs.declared.refusal.Refusal.TheVariants as refusals
 use Rattle.call.specs.declared.kind.Kind.{Kind}
 use Rattle.call.specs.declared.kind.Kind.TheVariants.{K, I}
 use Rattle.call.specs.Answer.{refused_of}
 use Rattle.call.proofs.FirstFacts.{is_one_of}
 use Rattle.bessel.specs.Arguments.{arguments_of}
-use Rattle.bessel.specs.Outcome.{Outcome, refused_outcome}
+use Rattle.bessel.specs.Outcome.{refused_outcome}
 use Rattle.bessel.specs.I.{i_outcome}
 use Rattle.bessel.specs.K.{k_outcome}
 use Rattle.bessel.proofs.SeriesOutcome as i

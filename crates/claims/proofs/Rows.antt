@@ -1,5 +1,5 @@
 -- The ten rows of docs/SCOPE.md, Calls to try, that are proved, as one claim. Where a row asks an entry point, the record and all the cells are given. Assumes nothing.
-use mathlib.Core.Path.{◌≡◌, refl, ap, ◌∙◌}
+use mathlib.Core.Path.{◌≡◌, ap}
 use mathlib.Core.Bool.{Bool, true, false}
 use mathlib.Core.List.{[], ◌∷◌}
 use Prim.Native.Nat.{ℕ}
@@ -8,7 +8,6 @@ use lib.Ieee.{Float, nan, fin, binary64, of_bits, to_unsigned}
 use Rattle.refusal.specs.declared.refusal.Refusal.TheVariants.{Length, NotFinite, Sign, Series, NotPositive}
 use Rattle.roots.specs.Sqrt.{sqrt_of}
 use Rattle.roots.proofs.SqrtValues.{sqrt-of-four, sqrt-of-smallest}
-use Rattle.rounding.specs.Round.{round_of}
 use Rattle.rounding.proofs.RoundFacts.{quarter, half, three_halves}
 use Rattle.complex.specs.Lost.{lost_of}
 use Rattle.complex.proofs.LostFacts.{zero-not-lost, one-not-lost, small-lost, nan-re-not-lost, nan-im-not-lost}

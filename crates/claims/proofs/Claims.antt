@@ -116,7 +116,7 @@ pub record OfChecks : Type 0 where
       (before : List Check) (here : Check) (after : List Check) (m : ℕ) → let n = refusal-number here.refusal in
       Given (before ++ (here ∷ after)) m → is_one_of n (numbers_of before) ≡ false → is_one_of n (numbers_of after) ≡ false → Exactly (m ≡ n) (none_applies before && here.applies)
 
-of-checks : OfChecks
+pub of-checks : OfChecks
 of-checks = record { first = first-decides; once = given-at }
 
 -- ---- K
@@ -176,7 +176,7 @@ pub record OfK : Type 0 where
       (v re im : Float) (length : ℕ) → T (fits binary64 v) → none_applies (k_checks (arguments_of v re im) length) ≡ true →
       is_half (ground_by (arguments_of v re im) length).fraction ≡ false → NeitherZero (arguments_of v re im) length
 
-of-k : OfK
+pub of-k : OfK
 unfolding all_k_checks k_checks k_own_checks argument_checks length_checks finite_checks limit_checks kernel_checks
 of-k = record {
   one-outcome = λ scaled v re im length. let o = k_outcome scaled v re im length in one-outcome o.answer o.cells;
@@ -249,7 +249,7 @@ pub record OfSeries : Type 0 where
       (g : Setting) (k : ℕ) (s : Descent) → s.near_underflow ≡ true →
       let t = step_of g k s in (t.near_underflow ≡ true) ⊎ T (lt absolute_approximation_limit (modulus_of t.above))
 
-of-series : OfSeries
+pub of-series : OfSeries
 unfolding all_series_checks series_checks series_own_checks argument_checks length_checks finite_checks limit_checks visit_checks
 of-series = record {
   one-outcome = λ scaled turned v re im length. let o = series_outcome scaled turned v re im length in one-outcome o.answer o.cells;
@@ -289,7 +289,7 @@ pub record OfI : Type 0 where
       (scaled : Bool) (v re im : Float) (length : ℕ) → (i_outcome scaled v re im length).answer.number ≡ 0 →
       (x : Float) → LogGammaAsked scaled false (arguments_of v re im) length x → T (positive x) × stirling.EndsByTest (series_argument_of x)
 
-of-i : OfI
+pub of-i : OfI
 unfolding i_outcome
 of-i = record {
   as-series = λ scaled v re im length. refl;
@@ -319,7 +319,7 @@ pub record OfLogGamma : Type 0 where
   -- its series ends by its own test, wherever it is asked for
   pub ends : (x : Float) → T (positive x) → stirling.EndsByTest (series_argument_of x)
 
-of-log-gamma : OfLogGamma
+pub of-log-gamma : OfLogGamma
 of-log-gamma = record {
   one-outcome = log-gamma.only-outcome;
   value = log-gamma.value-exactly;
@@ -348,7 +348,7 @@ pub record OfExports : Type 0 where
   pub i-number : (scaled : ℕ) (v re im : Float) (length : ℕ) → NumberOfSeries (is_scaled scaled) false v re im length (answer_of (i_outcome (is_scaled scaled) v re im length).answer).number
   pub k-number : (scaled : ℕ) (v re im : Float) (length : ℕ) → NumberOfK (is_scaled scaled) v re im length (answer_of (k_outcome (is_scaled scaled) v re im length).answer).number
 
-of-exports : OfExports
+pub of-exports : OfExports
 unfolding i_outcome
 of-exports = record {
   routines = of-routines.one-result;
@@ -372,7 +372,7 @@ pub record OfFrames : Type 0 where
       cell_bits_of at (line_of a cells) ≡ to_bits binary64 (get_or cells at z)
   pub answer-again : (line : List ℕ) (r : readings.Record) → reading_of line ≡ Readable r → line_again r (bits_read (r.pairs * 2) line) ≡ line
 
-of-frames : OfFrames
+pub of-frames : OfFrames
 of-frames = record { asking-read = asking-read; asking-again = asking-again; answered-read = answered-read; refused-read = refused-read; cell-read = cell-read; answer-again = line-again }
 
 -- ---- answer lines
@@ -408,7 +408,7 @@ pub record OfLines : Type 0 where
   -- every answer line can be read, and its fields are the record's, all of them, with the pairs that follow
   pub fields : (line : List ℕ) → let p = parsed_of line in reading_of (answer_line_of line) ≡ Readable (said_of (outcome_of p).answer (pairs_of p))
 
-of-lines : OfLines
+pub of-lines : OfLines
 unfolding outcome_line called_of called_as parsed_of asked_in
 of-lines = record {
   one_line = λ d line. one-outcome (length-of (answer_line_of line)) (bytes_into d line);
@@ -436,7 +436,7 @@ of-lines = record {
 pub record OfInput : Type 0 where
   pub cut-anywhere : (chunks : List (List ℕ)) → handed_from [] chunks ≡ output_of (joined_of chunks)
 
-of-input : OfInput
+pub of-input : OfInput
 of-input = record { cut-anywhere = cut-anywhere }
 
 -- ---- all of it
@@ -456,22 +456,3 @@ pub record Claims : Type 0 where
   pub of-input : OfInput
   pub of-sweep : OfSweep
   pub of-page : OfPage
-
-pub claims : Claims
-claims = record {
-  tried = rows;
-  of-checks = of-checks;
-  of-k = of-k;
-  of-series = of-series;
-  of-i = of-i;
-  of_steps = of_steps;
-  of-log-gamma = of-log-gamma;
-  of-routines = of-routines;
-  of-complex = of-complex;
-  of-exports = of-exports;
-  of-frames = of-frames;
-  of-lines = of-lines;
-  of-input = of-input;
-  of-sweep = of-sweep;
-  of-page = of-page;
-}

@@ -10,3 +10,4 @@ pub mod Lines
 pub mod Sweeps
 pub mod Pages
 pub mod Claims
+pub mod Whole

@@ -1,6 +1,6 @@
 # Sourced from the repository's root by ./run, ./install and the scripts of this folder: whether something has to be proved and compiled, and doing it, one at a
 # time in a repository. $said_by is the name before each line on standard error.
-first_time='from nothing it takes an hour or more'
+first_time='from nothing it takes a while'
 say() { printf '%s: %s\n' "${said_by:-build}" "$*" >&2; }
 
 # crates_of NAME: NAME and every crate beneath it by crates.txt, into the array crates_found; what the line of NAME itself lists, into crates_listed

@@ -150,7 +150,7 @@ def builds(made):
     status, out, said = made.run("prog", "a", "b c", data=b"asked\n")
     expect((status, out), (0, f"asked\n2 a b c\n{made.room}\n"), "the first run")
     expect(said[1:], ["run: mid proved (0 s)", "run: prog proved (0 s)"], "a line a crate")
-    assert said[0].startswith("run: proving and compiling what is new of prog and of the 2 crates beneath it") and "hour" in said[0], said
+    assert said[0].startswith("run: proving and compiling what is new of prog and of the 2 crates beneath it") and "from nothing" in said[0], said
     expect(made.proofs(), 1, "the first run proves once")
     with open(os.path.join(made.kit, "eaten")) as eaten:
         expect(eaten.read(), "", "the prover reads nothing of the input")

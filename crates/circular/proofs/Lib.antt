@@ -7,3 +7,4 @@ pub mod Finite
 pub mod Whole
 pub mod Zeros
 pub mod Examples
+pub mod RemainderFacts

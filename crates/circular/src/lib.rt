@@ -6,6 +6,7 @@ pub mod cos;
 pub mod cos_pi;
 pub mod kernel;
 pub mod reduce;
+pub mod remainder;
 pub mod sin;
 pub mod sin_cos;
 pub mod sin_pi;

@@ -4,6 +4,7 @@
 ghost use Rattle.std.specs.Prelude.{◌≡◌};
 ghost use Rattle.circular.specs.Reduce.{quarters_of, reduce_of, leading, halves_of, reduce_pi_of};
 
+use crate::remainder::remainder;
 use machine::bits::{of_pattern, pattern};
 
 #[derive(Clone, Copy)]
@@ -60,7 +61,7 @@ pub fn reduce(a: f64) -> Reduced
     }
     // each way has its own call, so that the rest is worked out only where it is wanted
     if a > 65536.0 {
-        return quarters(a % TURNS);
+        return quarters(remainder(a, TURNS));
     }
     quarters(a)
 }
@@ -101,7 +102,7 @@ pub fn reduce_pi(a: f64) -> Reduced
         };
     }
     if a > 1048576.0 {
-        return halves(a % 2.0);
+        return halves(remainder(a, 2.0));
     }
     halves(a)
 }

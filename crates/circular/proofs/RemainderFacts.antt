@@ -9,13 +9,13 @@ use native.Mathlib.Omega.{arith}
 use lib.Arith.{mod-mul}
 use lib.Pow.{pow_pos, pow-add, pow_mono}
 use lib.Dec.{T, lit<, lit≤}
-use lib.IntN.{ℤ, pos}
+use lib.IntN.{pos}
 use lib.Ieee.{Float, nan, inf, fin, binary64, up, down, of_bits, to_bits, of_int, round, fits, rem, mul, le}
 use lib.Ieee.Bits.{of_bits-to_bits}
 use lib.Ieee.Exact.{HasValue, round_exact}
 use lib.Ieee.Fits.{up_pos, down_pos}
 use lib.Ieee.Positive.{above_of_le}
-use lib.Ieee.Scale.{finite, round_same}
+use lib.Ieee.Scale.{round_same}
 use Rattle.std.proofs.lemmas.Nat.{mul-mod_second}
 use Rattle.laws.proofs.Value.{le-values}
 use Rattle.laws.proofs.Bits.{inf_bits, field_units, units_of, bits-value, pattern-value, units-le-back, to_bits-finite, bits_positive}

@@ -1,10 +1,8 @@
 -- `circular::remainder::remainder` meets its contract: above 65536 a value is infinite, or its digits and its exponent's field are the pattern's. Assumes nothing.
-use mathlib.Core.Path.{◌≡◌, sym, ◌∙◌, subst}
-use Prim.Native.Nat.{◌+◌, ◌-◌, ◌*◌, ◌/◌, ◌%◌, ◌^◌, ◌≤◌, ◌<◌}
+use mathlib.Core.Path.{sym, ◌∙◌, subst}
+use Prim.Native.Nat.{◌/◌, ◌^◌, ◌≤◌}
 use native.Mathlib.Nat.{le_trans}
-use native.Mathlib.Omega.{arith}
 use lib.Dec.{T}
-use Rattle.laws.proofs.Bits.{inf_bits}
 use Rattle.circular.proofs.RemainderFacts.{field-above, infinite-rest, remainder-is}
 use Rattle.circular.proofs.remainder.remainder.Goals as goal
 

@@ -74,6 +74,6 @@ fn main() {
     println!("cargo:rerun-if-changed={}", folder.join(ARCHIVE).display());
     println!("cargo:rustc-link-search=native={}", folder.display());
     println!("cargo:rustc-link-lib=static=capi");
-    // fmod, for sines and cosines of large arguments
+    // the C library's mathematics, which archives of older kits asked for
     println!("cargo:rustc-link-lib=m");
 }

@@ -25,14 +25,15 @@ TURNS = {
         ("a cell judged, K and I", (8, 0, 0, 0, 0), 8, 1.3, 2),
     ],
     "x86-64": [
-        ("a rung of the climb", (24, 20, 0, 4, 0), 4, 27.75, 1),
-        ("a rung of the fill", (24, 20, 0, 4, 8), 4, 30, 1),
+        # the loop of four rungs and that of one cross
+        ("a rung of the climb", (30, 27, 0, 6, 0), 5, 39, 1),
+        ("a rung of the fill", (24, 20, 0, 4, 8), 4, 32, 1),
         ("a backward step of Miller's", (22, 24, 2, 0, 0), 2, 41, 1),
-        ("a term of Temme's, order whole", (26, 22, 2, 2, 0), 1, 77, 1),
-        ("a term of Temme's", (26, 25, 4, 2, 0), 1, 99, 1),
-        ("a term of I, one sum of two", (32, 32, 4, 0, 0), 2, 55, 1),
-        ("a term of I, a sum alone", (16, 16, 2, 0, 0), 1, 52, 1),
-        ("a step of I's recurrence", (12, 14, 0, 2, 4), 2, 26.5, 1),
+        ("a term of Temme's, order whole", (27, 16, 2, 1, 0), 1, 77, 1),
+        ("a term of Temme's", (27, 19, 4, 1, 0), 1, 82, 1),
+        ("a term of I, one sum of two", (32, 28, 4, 0, 0), 2, 50, 1),
+        ("a term of I, a sum alone", (16, 12, 2, 0, 0), 1, 55, 1),
+        ("a step of I's recurrence", (12, 10, 0, 2, 4), 2, 22, 1),
         ("a cell judged, K", (16, 0, 0, 0, 0), 16, 1.25, 1),
         ("a cell judged, I", (8, 0, 0, 0, 0), 8, 1.6, 1),
     ],
@@ -74,7 +75,7 @@ def work(word, operands):
     for name, kind in ARITHMETIC:
         if word == name + "sd" or word == "f" + name and operands.startswith("d") or name == "mul" and word == "fnmul":
             return kind, 1
-        if word == name + "pd" or word == "f" + name and ".2d" in operands:
+        if word == name + "pd" or name == "add" and word in ("addsubpd", "haddpd", "hsubpd") or word == "f" + name and ".2d" in operands:
             return kind, 2
     return None, 0
 

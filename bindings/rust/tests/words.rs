@@ -112,7 +112,7 @@ fn the_header_has_the_version_of_the_crate() {
 
 #[test]
 fn every_function_of_the_archive_is_declared_and_explained() {
-    const EXPORTS: &str = include_str!("../../../crates/capi/src/lib.rt");
+    const EXPORTS: &str = include_str!("../../../crates/capi_c/src/lib.rt");
     const RAW: &str = include_str!("../src/raw.rs");
     let name = |line: &'static str| line.strip_prefix("pub extern \"C\" fn ").map(|rest| rest.split('(').next().unwrap());
     let exports: BTreeSet<&str> = EXPORTS.lines().filter_map(name).collect();

@@ -91,15 +91,16 @@ proving() {
 # compiled NAME FILE TOOLCHAIN: what `rt run` and `rt lib` do last, as rt does it: the crate NAME, a program or a static library, proved over the libraries beneath it as they
 # stand in out/, and compiled into FILE, an object or an archive, with the compiler of that toolchain
 compiled() {
-    local name=$1 file=$PWD/$2 root=src/main.rt kind=bin words=() crate
+    local name=$1 file=$PWD/$2 root=src/main.rt kind=() words=() crate
     crates_of "$name"
-    [ -f "crates/$name/$root" ] || root=src/lib.rt kind=staticlib
+    # a program is what is built where nothing else is said
+    [ -f "crates/$name/$root" ] || root=src/lib.rt kind=(--crate-type staticlib)
     for crate in std "${crates_listed[@]}"; do
         if [ -f "crates/$crate/src/lib.rt" ]; then words+=(--extern "$crate=../$crate/out/rlib/$crate.rlib"); else words+=(--extern "$crate=$kit/rlibs/$crate.rlib"); fi
     done
     for crate in "${crates_found[@]:1}"; do words+=(-L "dependency=../$crate/out/rlib"); done
     mkdir -p "${file%/*}" || return
-    (cd "crates/$name" && "$kit/bin/rattle" build --crate-type "$kind" --crate-name "$name" "$root" -L "dependency=$kit/rlibs" "${words[@]}" \
+    (cd "crates/$name" && "$kit/bin/rattle" build "${kind[@]}" --crate-name "$name" "$root" -L "dependency=$kit/rlibs" "${words[@]}" \
         --antt-project "$kit/rattle/logic/antt-project.json" --logic-built "$kit/logic_built" --jobs 2 --links "$name=" --toolchain "$3" --backend llvm -o "$file") > target/run.log 2>&1 && [ -s "$file" ]
 }
 

@@ -58,6 +58,6 @@ returns c =
       d.magnitude-2.ensures,
       e.magnitude.ensures,
       number _ e.if-y.false,
-      number _ e.if-x.false,
+      number _ d.if-x.false,
       sym c.is_negative-2.ensures ∙ c.if-is_negative.false,
     )

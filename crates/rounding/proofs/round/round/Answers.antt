@@ -38,6 +38,6 @@ unfolding of_int
 returns-else-bits-lt9223372036854775808 c =
     let k = c.nearest_whole-whole.result in
     let start = c in
-    sym (with-fraction start.args.x (subst T (sym start.well_formed.0.1) tt) k c.if-field-gt1074.false c.nearest_whole-whole.ensures.0
+    sym (with-fraction start.args.x (subst T (sym start.well_formed.0.1) tt) k start.if-field-gt1074.false c.nearest_whole-whole.ensures.0
     ∙ ap (λ (b : Bool). round binary64 b k 1) (le-leb _ _ c.if-bits-lt9223372036854775808.false)
     ∙ round-neg binary64 k 1)

@@ -4,9 +4,5 @@ ghost use Rattle.std.specs.Prelude.{◌≡◌, length, replicate};
 pub fn fill(out: &mut [f64], value: f64)
     ensures { out.new ≡ replicate (length out.old) value }
 {
-    let mut i = 0;
-    while i < out.len() {
-        out[i] = value;
-        i += 1;
-    }
+    out.fill(value);
 }

@@ -9,9 +9,12 @@ use lib.ListN.{get_or}
 use lib.Ieee.{Float, nan, inf, fin, binary64, of_bits, to_bits, fits, neg, ne}
 use lib.Ieee.Compare.{differs_from_itself}
 use lib.Ieee.Scale.{finite}
+use Rattle.std.specs.Prelude.{Option, Some, None, is_some, is_none, unwrap_or}
 use Rattle.laws.proofs.Value.{sign, bare}
 use Rattle.laws.proofs.Bits.{inf_bits}
 use Rattle.circular.specs.declared.reduce.Reduced.{Reduced}
+use Rattle.circular.specs.declared.split.Split.{Split}
+use Rattle.circular.specs.Split.{split_of}
 use Rattle.circular.specs.Kernel.{sine_kernel, cosine_kernel, turned}
 use Rattle.circular.specs.Reduce.{within_turns, quarters_of, reduce_of, halves_of, reduce_pi_of}
 use Rattle.circular.specs.Sin.{sin_of}
@@ -89,54 +92,91 @@ cos_pi-none nan h = refl
 cos_pi-none (inf s) h = refl
 cos_pi-none (fin s m e) h = absurd h
 
+-- ---- x taken apart, by its bits
+split-none : (x : Float) → T (not (finite x)) → None ≡ split_of x
+unfolding split_of
+split-none nan h = refl
+split-none (inf s) h = refl
+split-none (fin s m e) h = absurd h
+
+split-some : (x : Float) → T (finite x) → Some (record { size = bare x; turns = cond (sign x) 2 0 }) ≡ split_of x
+unfolding split_of
+split-some nan h = absurd h
+split-some (inf s) h = absurd h
+split-some (fin s m e) h = refl
+
 -- what differs from itself is not a number
-pub sin-nan : (x : Float) → ne x x ≡ true → sin_of x ≡ nan
-sin-nan x h = ap sin_of (differs_from_itself x (subst T (sym h) tt)) ∙ sin-none nan tt
+pub split-nan : (x : Float) → ne x x ≡ true → None ≡ split_of x
+split-nan x h = split-none nan tt ∙ sym (ap split_of (differs_from_itself x (subst T (sym h) tt)))
 
-pub cos-nan : (x : Float) → ne x x ≡ true → cos_of x ≡ nan
-cos-nan x h = ap cos_of (differs_from_itself x (subst T (sym h) tt)) ∙ cos-none nan tt
-
-pub sin_pi-nan : (x : Float) → ne x x ≡ true → sin_pi_of x ≡ nan
-sin_pi-nan x h = ap sin_pi_of (differs_from_itself x (subst T (sym h) tt)) ∙ sin_pi-none nan tt
-
-pub cos_pi-nan : (x : Float) → ne x x ≡ true → cos_pi_of x ≡ nan
-cos_pi-nan x h = ap cos_pi_of (differs_from_itself x (subst T (sym h) tt)) ∙ cos_pi-none nan tt
-
--- ---- by the bits of x
 module _ (x : Float) (b : ℕ) (F : T (fits binary64 x)) (B : b ≡ to_bits binary64 x) where
-  pub sin-large : inf_bits ≤ b % 2 ^ 63 → sin_of x ≡ nan
-  sin-large h = sin-none x (size-large x F (subst (λ (n : ℕ). inf_bits ≤ n % 2 ^ 63) B h))
+  pub split-large : inf_bits ≤ b % 2 ^ 63 → None ≡ split_of x
+  split-large h = split-none x (size-large x F (subst (λ (n : ℕ). inf_bits ≤ n % 2 ^ 63) B h))
 
-  pub cos-large : inf_bits ≤ b % 2 ^ 63 → cos_of x ≡ nan
-  cos-large h = cos-none x (size-large x F (subst (λ (n : ℕ). inf_bits ≤ n % 2 ^ 63) B h))
+  pub split-at : b % 2 ^ 63 < inf_bits → (a : Float) → a ≡ of_bits binary64 (b % 2 ^ 63) → Some (record { size = a; turns = b / 2 ^ 63 * 2 }) ≡ split_of x
+  split-at h a A =
+      let f = size-finite x F (subst (λ (n : ℕ). n % 2 ^ 63 < inf_bits) B h) in
+      ap (λ (y : Float). Some (record { size = y; turns = b / 2 ^ 63 * 2 })) (A ∙ ap (λ (n : ℕ). of_bits binary64 (n % 2 ^ 63)) B ∙ size-bare x F)
+      ∙ ap (λ (n : ℕ). Some (record { size = bare x; turns = n })) (ap (λ (n : ℕ). n / 2 ^ 63 * 2) B ∙ half-turn x F f)
+      ∙ split-some x f
 
-  pub sin_pi-large : inf_bits ≤ b % 2 ^ 63 → sin_pi_of x ≡ nan
-  sin_pi-large h = sin_pi-none x (size-large x F (subst (λ (n : ℕ). inf_bits ≤ n % 2 ^ 63) B h))
+-- ---- the four functions where x is not finite, and by the parts of a finite one
+not-finite : (x : Float) → None ≡ split_of x → T (not (finite x))
+unfolding split_of
+not-finite nan e = tt
+not-finite (inf s) e = tt
+not-finite (fin s m e) e' = absurd (subst (λ (o : Option Split). T (is_none o)) e' tt)
 
-  pub cos_pi-large : inf_bits ≤ b % 2 ^ 63 → cos_pi_of x ≡ nan
-  cos_pi-large h = cos_pi-none x (size-large x F (subst (λ (n : ℕ). inf_bits ≤ n % 2 ^ 63) B h))
+pub sin-left : (x : Float) → None ≡ split_of x → sin_of x ≡ nan
+sin-left x e = sin-none x (not-finite x e)
 
-  number : b % 2 ^ 63 < inf_bits → T (finite x)
-  number h = size-finite x F (subst (λ (n : ℕ). n % 2 ^ 63 < inf_bits) B h)
+pub cos-left : (x : Float) → None ≡ split_of x → cos_of x ≡ nan
+cos-left x e = cos-none x (not-finite x e)
 
-  angle : (f : Float → Reduced) (r : Reduced) (a : Float) → r ≡ f a → a ≡ of_bits binary64 (b % 2 ^ 63) → r ≡ f (bare x)
-  angle f r a p q = p ∙ ap f (q ∙ ap (λ (n : ℕ). of_bits binary64 (n % 2 ^ 63)) B ∙ size-bare x F)
+pub sin_pi-left : (x : Float) → None ≡ split_of x → sin_pi_of x ≡ nan
+sin_pi-left x e = sin_pi-none x (not-finite x e)
 
-  turn : b % 2 ^ 63 < inf_bits → b / 2 ^ 63 * 2 ≡ cond (sign x) 2 0
-  turn h = ap (λ (n : ℕ). n / 2 ^ 63 * 2) B ∙ half-turn x F (number h)
+pub cos_pi-left : (x : Float) → None ≡ split_of x → cos_pi_of x ≡ nan
+cos_pi-left x e = cos_pi-none x (not-finite x e)
 
-  module _ (h : b % 2 ^ 63 < inf_bits) (r : Reduced) (a : Float) (A : a ≡ of_bits binary64 (b % 2 ^ 63)) where
-    pub sin-at : r ≡ reduce_of a → at neg r (b / 2 ^ 63 * 2) ≡ sin_of x
-    sin-at R = ap (λ (n : ℕ). at neg r n) (turn h) ∙ ap (λ (y : Reduced). at neg y (cond (sign x) 2 0)) (angle reduce_of r a R A) ∙ sym (sin-is x (number h))
+record Apart (x : Float) (w : Split) : Type 0 where
+  number : T (finite x)
+  size : w.size ≡ bare x
+  turns : w.turns ≡ cond (sign x) 2 0
 
-    pub sin_pi-at : r ≡ reduce_pi_of a → at from_zero r (b / 2 ^ 63 * 2) ≡ sin_pi_of x
-    sin_pi-at R = ap (λ (n : ℕ). at from_zero r n) (turn h) ∙ ap (λ (y : Reduced). at from_zero y (cond (sign x) 2 0)) (angle reduce_pi_of r a R A) ∙ sym (sin_pi-is x (number h))
+apart : (x : Float) (w : Split) → Some w ≡ split_of x → Apart x w
+unfolding split_of
+apart nan w e = absurd (subst (λ (o : Option Split). T (is_some o)) e tt)
+apart (inf s) w e = absurd (subst (λ (o : Option Split). T (is_some o)) e tt)
+apart (fin s m e) w e' = record {
+  number = tt;
+  size = ap (λ (o : Option Split). (unwrap_or o w).size) e';
+  turns = ap (λ (o : Option Split). (unwrap_or o w).turns) e';
+}
 
-    pub cos-at : r ≡ reduce_of a → at neg r 1 ≡ cos_of x
-    cos-at R = ap (λ (y : Reduced). at neg y 1) (angle reduce_of r a R A) ∙ sym (cos-is x (number h))
+-- a sign is worth two quarter turns at most
+pub few-turns : (x : Float) (w : Split) → Some w ≡ split_of x → w.turns ≤ 2
+few-turns x w e = go (sign x) w.turns (apart x w e).turns
+  where
+    go : (s : Bool) (n : ℕ) → n ≡ cond s 2 0 → n ≤ 2
+    go true n h = omega arith
+    go false n h = omega arith
 
-    pub cos_pi-at : r ≡ reduce_pi_of a → at from_zero r 1 ≡ cos_pi_of x
-    cos_pi-at R = ap (λ (y : Reduced). at from_zero y 1) (angle reduce_pi_of r a R A) ∙ sym (cos_pi-is x (number h))
+module _ (x : Float) (w : Split) (e : Some w ≡ split_of x) (r : Reduced) where
+  turned-at : (minus : Float → Float) (f : Float → Reduced) → r ≡ f w.size → (n : ℕ) → at minus r n ≡ at minus (f (bare x)) n
+  turned-at minus f R n = ap (λ (y : Reduced). at minus y n) (R ∙ ap f (apart x w e).size)
+
+  pub sin-at : r ≡ reduce_of w.size → at neg r w.turns ≡ sin_of x
+  sin-at R = turned-at neg reduce_of R w.turns ∙ ap (λ (n : ℕ). at neg (reduce_of (bare x)) n) (apart x w e).turns ∙ sym (sin-is x (apart x w e).number)
+
+  pub sin_pi-at : r ≡ reduce_pi_of w.size → at from_zero r w.turns ≡ sin_pi_of x
+  sin_pi-at R = turned-at from_zero reduce_pi_of R w.turns ∙ ap (λ (n : ℕ). at from_zero (reduce_pi_of (bare x)) n) (apart x w e).turns ∙ sym (sin_pi-is x (apart x w e).number)
+
+  pub cos-at : r ≡ reduce_of w.size → at neg r 1 ≡ cos_of x
+  cos-at R = turned-at neg reduce_of R 1 ∙ sym (cos-is x (apart x w e).number)
+
+  pub cos_pi-at : r ≡ reduce_pi_of w.size → at from_zero r 1 ≡ cos_pi_of x
+  cos_pi-at R = turned-at from_zero reduce_pi_of R 1 ∙ sym (cos_pi-is x (apart x w e).number)
 
 -- ---- the four sines in a row, taken by the last two bits of the quarter turns
 pub turns : (q : ℕ) (s c : Float) → get_or (s ∷ c ∷ neg s ∷ neg c ∷ []) (q % 4) nan ≡ turned neg q s c

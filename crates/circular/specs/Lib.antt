@@ -5,3 +5,4 @@ pub mod Cos
 pub mod SinCos
 pub mod SinPi
 pub mod CosPi
+pub mod Split

@@ -5,20 +5,16 @@ ghost use Rattle.circular.specs.Cos.{cos_of};
 
 use crate::kernel::sine_at;
 use crate::reduce::reduce;
-use machine::bits::{of_pattern, pattern};
+use crate::split::parted;
 use machine::constants::not_a_number;
 
 pub fn cos(x: f64) -> f64
     ensures { result ≡ cos_of x }
 {
-    if x != x {
+    let Some(parts) = parted(x) else {
         return not_a_number();
-    }
-    let size = pattern(x) % 0x8000000000000000;
-    if size >= 0x7FF0000000000000 {
-        return not_a_number();
-    }
-    let angle = reduce(of_pattern(size));
+    };
+    let angle = reduce(parts.size);
     // the cosine is the sine a quarter turn further on
     sine_at(angle, angle.quarter + 1)
 }

@@ -1,6 +1,6 @@
 // Sine and cosine of hi + lo, |hi| at most about π/4, by the classic polynomials of degree 13 and 14 (fdlibm's k_sin.c and k_cos.c).
 // Promised: the bits of the definitions, operation by operation, for every pair.
-ghost use Rattle.std.specs.Prelude.{◌≡◌};
+ghost use Rattle.std.specs.Prelude.{◌≡◌, Float};
 ghost use Rattle.std.specs.Float.Ieee.{neg};
 ghost use Rattle.circular.specs.Kernel.{sine_kernel, cosine_kernel, turned};
 ghost use Rattle.circular.specs.SinPi.{from_zero};
@@ -51,17 +51,25 @@ pub fn cosine(hi: f64, lo: f64) -> f64
     t + ((1.0 - t - h) + (z * r - hi * lo))
 }
 
-// Only the kernel that is asked for is worked out.
-pub fn sine_at(angle: Reduced, quarter: u64) -> f64
-    ensures { result ≡ turned neg quarter (sine_kernel angle.hi angle.lo)
-        (cosine_kernel angle.hi angle.lo) }
+// The sine a number of quarter turns further on, where `minus` takes a value to its negative. Only the kernel that is asked for is worked out.
+fn sine_after<F: Fn(f64) -> f64>(angle: Reduced, quarter: u64, minus: F) -> f64
+    requires { F.IsAlwaysCallable minus }
+    ensures { (m : Float → Float) → ((y z : Float) → F.post minus y z → z ≡ m y)
+        → result ≡ turned m quarter (sine_kernel angle.hi angle.lo) (cosine_kernel angle.hi angle.lo) }
 {
     let y = if quarter % 2 == 0 {
         sine(angle.hi, angle.lo)
     } else {
         cosine(angle.hi, angle.lo)
     };
-    if quarter / 2 % 2 == 0 { y } else { -y }
+    if quarter / 2 % 2 == 0 { y } else { minus(y) }
+}
+
+pub fn sine_at(angle: Reduced, quarter: u64) -> f64
+    ensures { result ≡ turned neg quarter (sine_kernel angle.hi angle.lo)
+        (cosine_kernel angle.hi angle.lo) }
+{
+    sine_after(angle, quarter, |y| -y)
 }
 
 // The same with `0.0 - y` for -y, so that a zero stays +0.
@@ -69,10 +77,5 @@ pub fn sine_pi_at(angle: Reduced, quarter: u64) -> f64
     ensures { result ≡ turned from_zero quarter (sine_kernel angle.hi angle.lo)
         (cosine_kernel angle.hi angle.lo) }
 {
-    let y = if quarter % 2 == 0 {
-        sine(angle.hi, angle.lo)
-    } else {
-        cosine(angle.hi, angle.lo)
-    };
-    if quarter / 2 % 2 == 0 { y } else { 0.0 - y }
+    sine_after(angle, quarter, |y| 0.0 - y)
 }

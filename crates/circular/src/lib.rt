@@ -10,3 +10,4 @@ pub mod remainder;
 pub mod sin;
 pub mod sin_cos;
 pub mod sin_pi;
+mod split;

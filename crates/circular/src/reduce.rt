@@ -2,10 +2,10 @@
 // The nearest whole number comes from an addition to 2^52, whose unit is 1, and the quarter turns from the sum's last bits.
 // Promised: the bits of the definitions for every argument.
 ghost use Rattle.std.specs.Prelude.{◌≡◌};
-ghost use Rattle.circular.specs.Reduce.{quarters_of, reduce_of, leading, halves_of, reduce_pi_of};
+ghost use Rattle.circular.specs.Reduce.{quarters_of, reduce_of, halves_of, reduce_pi_of};
 
 use crate::remainder::remainder;
-use machine::bits::{of_pattern, pattern};
+use machine::bits::{leading_digits, pattern};
 
 #[derive(Clone, Copy)]
 pub struct Reduced {
@@ -64,14 +64,6 @@ pub fn reduce(a: f64) -> Reduced
         return quarters(remainder(a, TURNS));
     }
     quarters(a)
-}
-
-// The leading 26 digits.
-fn leading_digits(r: f64) -> f64
-    ensures { result ≡ leading r }
-{
-    let bits = pattern(r);
-    of_pattern(bits - bits % 0x8000000)
 }
 
 fn halves(a: f64) -> Reduced

@@ -16,10 +16,8 @@ fn doubled_rest(m: u64, shift: u64, n: u64) -> u64
     ensures { result ≡ (m * 2 ^ shift) % n }
 {
     let mut r = m % n;
-    let mut i = 0;
-    while i < shift {
+    for _ in 0..shift {
         r = 2 * r % n;
-        i += 1;
     }
     r
 }

@@ -1,5 +1,6 @@
-// The bits of any f64 and back, for every pattern: a not-a-number is always the fixed one.
-ghost use Rattle.std.specs.Prelude.{◌≡◌};
+// The bits of any f64 and back, for every pattern: a not-a-number is always the fixed one. `f64::to_bits` and `f64::from_bits`, on which they
+// stand, ask for a number.
+ghost use Rattle.std.specs.Prelude.{◌≡◌, ◌-◌, ◌%◌};
 ghost use Rattle.std.specs.Float.{binary64};
 ghost use Rattle.std.specs.Float.Ieee.{to_bits, of_bits};
 
@@ -23,4 +24,12 @@ pub fn of_pattern(b: u64) -> f64
         return not_a_number();
     }
     f64::from_bits(b)
+}
+
+// The leading 26 digits, of a not-a-number the fixed one: a product of two such numbers is exact.
+pub fn leading_digits(x: f64) -> f64
+    ensures { result ≡ of_bits binary64 (to_bits binary64 x - to_bits binary64 x % 0x8000000) }
+{
+    let bits = pattern(x);
+    of_pattern(bits - bits % 0x8000000)
 }

@@ -1,16 +1,12 @@
 use mathlib.Core.Path.{◌≡◌}
 use mathlib.Core.Bool.{◌&&◌}
-use Prim.Native.Nat.{◌-◌, ◌≤◌}
-use lib.ListN.{length, drop}
+use Prim.Native.Nat.{◌*◌}
+use lib.ListN.{drop}
 use Rattle.cells.specs.AllFinite.{all_finite}
 use Rattle.cells.proofs.NoughtFacts.{together, Noughts}
 use Rattle.cells.proofs.all_finite.all_finite.Given as goal
 
-abbrev pub invariant-loop-i : goal.invariant-loop-i
-invariant-loop-i l =
-    (l.i ≤ length l.cells)
-    × Noughts l.a l.b l.c l.d l.e l.f l.g l.h
-    × (all_finite (drop l.from l.cells) ≡ (together l.a l.b l.c l.d l.e l.f l.g l.h && all_finite (drop l.i l.cells)))
-
-abbrev pub decreases-loop-i : goal.decreases-loop-i
-decreases-loop-i l = length l.cells - l.i
+abbrev pub invariant-loop-x : goal.invariant-loop-x
+invariant-loop-x l =
+    Noughts l.a l.b l.c l.d l.e l.f l.g l.h
+    × (all_finite (drop l.fn.from l.fn.cells) ≡ (together l.a l.b l.c l.d l.e l.f l.g l.h && all_finite (drop (l.x-index * 8) (drop l.fn.from l.fn.cells))))

@@ -1,30 +1,16 @@
--- `circular::cos::cos` meets its contract: by the bits of x. Assumes nothing.
+-- `circular::cos::cos` meets its contract: by the parts of x. Assumes nothing.
 use mathlib.Core.Path.{sym, ◌∙◌, subst}
 use Prim.Native.Nat.{◌<◌}
 use native.Mathlib.Omega.{arith}
-use lib.Dec.{T}
 use Rattle.circular.specs.declared.reduce.Reduced.{Reduced}
-use Rattle.circular.proofs.Parts.{quarter-lt, cos-nan, cos-large, cos-at}
+use Rattle.circular.proofs.Parts.{quarter-lt, cos-left, cos-at}
 use Rattle.circular.proofs.cos.cos.Goals as goal
 
-pub returns-then-x : goal.returns-then-x
-returns-then-x c = c.not_a_number.ensures ∙ sym (cos-nan c.args.x c.if-x.true)
-
-pub returns-then-size-ge9218868437227405312 : goal.returns-then-size-ge9218868437227405312
-returns-then-size-ge9218868437227405312 c =
-    let s = c in
-    let p = c.pattern-size in
-    c.not_a_number-then-size-ge9218868437227405312.ensures ∙ sym (cos-large s.args.x p.result (subst T (sym s.well_formed.0.1) tt) p.ensures c.if-size-ge9218868437227405312.true)
+pub returns-in_default : goal.returns-in_default
+returns-in_default c = c.not_a_number.ensures ∙ sym (cos-left c.args.x c.in_default.ensures)
 
 pub overflow_add-angle : goal.overflow_add-angle
-overflow_add-angle c = omega (arith, subst (λ (r : Reduced). r.quarter < 4) (sym c.reduce-angle.ensures) (quarter-lt c.of_pattern.result))
+overflow_add-angle c = omega (arith, subst (λ (r : Reduced). r.quarter < 4) (sym c.reduce-angle.ensures) (quarter-lt c.in-Some.parts.size))
 
 pub returns : goal.returns
-returns c =
-    let d = c in
-    let s = d in
-    let p = d.pattern-size in
-    let a = c.of_pattern in
-    let r = c.reduce-angle in
-    c.sine_at.ensures
-    ∙ cos-at s.args.x p.result (subst T (sym s.well_formed.0.1) tt) p.ensures d.if-size-ge9218868437227405312.false r.result a.result a.ensures r.ensures
+returns c = c.sine_at.ensures ∙ cos-at c.args.x c.in-Some.parts c.in-Some.ensures c.reduce-angle.result c.reduce-angle.ensures

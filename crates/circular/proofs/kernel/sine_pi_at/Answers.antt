@@ -1,22 +1,8 @@
--- `circular::kernel::sine_pi_at` meets its contract: by the parity of the quarter turns, then by the half. Assumes nothing.
-use borrow.Author.Tests.{eq-eqb, ne_eqb}
-use Rattle.circular.specs.Kernel.{turned}
+-- `circular::kernel::sine_pi_at` meets its contract: the closure takes a value from zero. Assumes nothing.
+use Rattle.std.proofs.Common.{rules}
 use Rattle.circular.specs.SinPi.{from_zero}
 use Rattle.circular.proofs.kernel.sine_pi_at.Goals as goal
-use Rattle.circular.proofs.kernel.sine_pi_at.Goals.{then-quarter-eq0, else-quarter-eq0}
 
-pub returns-then-quarter-eq0-2 : goal.returns-then-quarter-eq0-2
-unfolding turned from_zero
-returns-then-quarter-eq0-2 c =
-    elim c.if-quarter-eq0.branch [
-      | then-quarter-eq0 w ↦ simp (eq-eqb _ _ w.if-quarter-eq0.true, eq-eqb _ _ c.if-quarter-eq0-2.true, w.y-is, w.sine-y.ensures)
-      | else-quarter-eq0 w ↦ simp (ne_eqb _ _ w.if-quarter-eq0.false, eq-eqb _ _ c.if-quarter-eq0-2.true, w.y-is, w.cosine-y.ensures)
-    ]
-
-pub returns-else-quarter-eq0-2 : goal.returns-else-quarter-eq0-2
-unfolding turned from_zero
-returns-else-quarter-eq0-2 c =
-    elim c.if-quarter-eq0.branch [
-      | then-quarter-eq0 w ↦ simp (eq-eqb _ _ w.if-quarter-eq0.true, ne_eqb _ _ c.if-quarter-eq0-2.false, w.y-is, w.sine-y.ensures)
-      | else-quarter-eq0 w ↦ simp (ne_eqb _ _ w.if-quarter-eq0.false, ne_eqb _ _ c.if-quarter-eq0-2.false, w.y-is, w.cosine-y.ensures)
-    ]
+pub returns : goal.returns
+unfolding from_zero
+returns c = c.sine_after.ensures from_zero (λ y z p. search rules)

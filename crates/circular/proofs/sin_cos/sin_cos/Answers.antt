@@ -1,9 +1,8 @@
--- `circular::sin_cos::sin_cos` meets its contract: the pair is sin and cos, each by the bits of x. Assumes nothing.
+-- `circular::sin_cos::sin_cos` meets its contract: the pair is sin and cos, each by the parts of x. Assumes nothing.
 use mathlib.Core.Path.{◌≡◌, sym, ◌∙◌, subst, ap}
 use mathlib.Core.List.{[], ◌∷◌}
-use Prim.Native.Nat.{ℕ, ◌+◌, ◌*◌, ◌/◌, ◌%◌, ◌<◌}
+use Prim.Native.Nat.{ℕ, ◌+◌, ◌%◌, ◌<◌}
 use native.Mathlib.Omega.{arith}
-use lib.Dec.{T}
 use lib.ListN.{get_or}
 use lib.Ieee.{Float, nan, neg}
 use Rattle.circular.specs.declared.reduce.Reduced.{Reduced}
@@ -12,7 +11,7 @@ use Rattle.circular.specs.Sin.{sin_of}
 use Rattle.circular.specs.Cos.{cos_of}
 use Rattle.circular.specs.SinCos.{sin_cos_of}
 use Rattle.circular.specs.Kernel.{sine_kernel, cosine_kernel, turned}
-use Rattle.circular.proofs.Parts.{quarter-lt, at, sin-nan, sin-large, sin-at, cos-nan, cos-large, cos-at, turns}
+use Rattle.circular.proofs.Parts.{quarter-lt, at, few-turns, sin-left, sin-at, cos-left, cos-at, turns}
 use Rattle.circular.proofs.sin_cos.sin_cos.Goals as goal
 
 both : {s c : Float} (x : Float) → s ≡ sin_of x → c ≡ cos_of x → record { sin = s; cos = c } ≡ sin_cos_of x
@@ -30,36 +29,23 @@ row r s d p q n =
     ∙ ap (λ (t : Float). turned neg (r.quarter + n) t d) p
     ∙ ap (λ (t : Float). turned neg (r.quarter + n) (sine_kernel r.hi r.lo) t) q
 
-pub returns-then-x : goal.returns-then-x
-returns-then-x c =
+pub returns-in_default : goal.returns-in_default
+returns-in_default c =
     let x = c.args.x in
-    let t = c.if-x.true in
-    both x (c.not_a_number.ensures ∙ sym (sin-nan x t)) (c.not_a_number-then-x.ensures ∙ sym (cos-nan x t))
-
-pub returns-then-size-ge9218868437227405312 : goal.returns-then-size-ge9218868437227405312
-returns-then-size-ge9218868437227405312 c =
-    let x = c.args.x in
-    let p = c.pattern-bits in
-    let F = subst T (sym c.well_formed.0.1) tt in
-    let h = c.if-size-ge9218868437227405312.true in
-    both x (c.not_a_number-then-size-ge9218868437227405312.ensures ∙ sym (sin-large x p.result F p.ensures h))
-    (c.not_a_number-then-size-ge9218868437227405312-2.ensures ∙ sym (cos-large x p.result F p.ensures h))
+    let e = c.in_default.ensures in
+    both x (c.not_a_number.ensures ∙ sym (sin-left x e)) (c.not_a_number-in_default.ensures ∙ sym (cos-left x e))
 
 pub overflow_add-here : goal.overflow_add-here
-overflow_add-here c = omega (arith, quarter-of c.of_pattern.result c.reduce-angle.result c.reduce-angle.ensures)
+overflow_add-here c = omega (arith, quarter-of c.in-Some.parts.size c.reduce-angle.result c.reduce-angle.ensures, few-turns c.args.x c.in-Some.parts c.in-Some.ensures)
 
 pub overflow_add-next : goal.overflow_add-next
-overflow_add-next c = omega (arith, quarter-of c.of_pattern.result c.reduce-angle.result c.reduce-angle.ensures)
+overflow_add-next c = omega (arith, quarter-of c.in-Some.parts.size c.reduce-angle.result c.reduce-angle.ensures)
 
 pub returns : goal.returns
 returns c =
     let x = c.args.x in
-    let p = c.pattern-bits in
-    let h = c.if-size-ge9218868437227405312.false in
-    let a = c.of_pattern in
+    let w = c.in-Some.parts in
+    let e = c.in-Some.ensures in
     let r = c.reduce-angle in
-    let F = subst T (sym c.well_formed.0.1) tt in
     let turn = row r.result c.sine-s.result c.cosine-c.result c.sine-s.ensures c.cosine-c.ensures in
-    both x
-    (turn (p.result / 9223372036854775808 * 2) ∙ sin-at x p.result F p.ensures h r.result a.result a.ensures r.ensures)
-    (turn 1 ∙ cos-at x p.result F p.ensures h r.result a.result a.ensures r.ensures)
+    both x (turn w.turns ∙ sin-at x w e r.result r.ensures) (turn 1 ∙ cos-at x w e r.result r.ensures)

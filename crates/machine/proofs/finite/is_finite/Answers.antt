@@ -1,8 +1,15 @@
--- `machine::finite::is_finite` meets its contract. Assumes nothing.
-use lib.Ieee.{binary64, of_bits}
-use Rattle.machine.proofs.Difference.{difference-itself}
+-- `machine::finite::is_finite` meets its contract: the library's definition and that of the laws agree case by case. Assumes nothing.
+use mathlib.Core.Path.{◌≡◌, refl, ◌∙◌}
+use lib.Ieee.{Float, nan, inf, fin}
+use lib.Ieee.Scale.{finite}
+use Rattle.std.specs.Float.{float_is_finite}
 use Rattle.machine.proofs.finite.is_finite.Goals as goal
 
+same : (x : Float) → float_is_finite x ≡ finite x
+unfolding float_is_finite
+same nan = refl
+same (inf s) = refl
+same (fin s m e) = refl
+
 pub returns : goal.returns
-unfolding of_bits
-returns c = difference-itself binary64 c.args.x
+returns c = c.is_finite.ensures.value ∙ same c.args.x

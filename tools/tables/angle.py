@@ -35,7 +35,7 @@ LOW = [pair[1] for pair in PAIRS]
 
 
 def arm(key, j):
-    return f"        {key} => Sum {{\n            high: {HIGH[j]!r},\n            low: {LOW[j]!r},\n        }},\n"
+    return f"        {key} => Pair {{\n            hi: {HIGH[j]!r},\n            lo: {LOW[j]!r},\n        }},\n"
 
 
 def antt_float(x):
@@ -56,14 +56,9 @@ SOURCE = f"""// {ABOUT}
 ghost use Rattle.std.specs.Prelude.{{◌≡◌, ◌<◌}};
 ghost use Rattle.angle_tables.specs.Tables.{{tabled_of}};
 
-// An angle as an unevaluated sum.
-#[derive(Clone, Copy)]
-pub struct Sum {{
-    pub high: f64,
-    pub low: f64,
-}}
+use machine::pair::Pair;
 
-pub fn tabled(j: usize) -> Sum
+pub fn tabled(j: usize) -> Pair
     requires {{ j < {STEPS + 1} }}
     ensures {{ result ≡ tabled_of j }}
 {{
@@ -76,14 +71,14 @@ SPEC = f"""-- {ABOUT}
 use Rattle.std.specs.Prelude.{{List, [], ◌∷◌, ℕ, get_or, Float}}
 use Rattle.std.specs.Float.{{nan, binary64}}
 use Rattle.std.specs.Float.Ieee.{{of_bits, neg}}
-use Rattle.angle_tables.specs.declared.tables.Sum.{{Sum}}
+use Rattle.machine.specs.declared.pair.Pair.{{Pair}}
 
 {antt("atan_high", "the nearest f64", HIGH)}
 {antt("atan_low", "what is left", LOW)}
-unfoldable pub tabled_of : ℕ → Sum
+unfoldable pub tabled_of : ℕ → Pair
 tabled_of j = record {{
-  high = get_or atan_high j nan;
-  low = get_or atan_low j nan;
+  hi = get_or atan_high j nan;
+  lo = get_or atan_low j nan;
 }}
 """
 
@@ -112,10 +107,15 @@ def polynomial_error():
     return worst
 
 
+def bare(text):
+    """A text without what the formatter may change."""
+    return re.sub(r"\s+", "", text).replace(",}", "}")
+
+
 def check():
     wrong = 0
     for path, text in FILES.items():
-        if re.sub(r"\s+", " ", path.read_text()) != re.sub(r"\s+", " ", text):
+        if bare(path.read_text()) != bare(text):
             print("differs:", path)
             wrong = 1
     spec = (CRATES / "angle" / "specs" / "Angle.antt").read_text()

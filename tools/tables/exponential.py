@@ -40,7 +40,7 @@ def rattle():
            '// Written by tools/tables/exponential.py, with specs/Tables.antt and the proofs that they agree.',
            'ghost use Rattle.std.specs.Prelude.{◌≡◌, ◌<◌};',
            'ghost use Rattle.exponential_tables.specs.Tables.{%s};' % ', '.join(name + '_power' for name, _, _, _ in TABLES),
-           'use crate::Pair;']
+           'use machine::pair::Pair;']
     for name, what, index, entries in TABLES:
         out += ['', '// ' + what, 'pub fn %s(%s: usize) -> Pair' % (name, index), '    requires { %s < %d }' % (index, len(entries)),
                 '    ensures { result ≡ %s_power %s }' % (name, index), '{', '    match %s {' % index]
@@ -57,7 +57,7 @@ def definitions():
            'use Rattle.std.specs.Prelude.{List, [], ◌∷◌, ℕ, get_or, Float}',
            'use Rattle.std.specs.Float.{nan, binary64}',
            'use Rattle.std.specs.Float.Ieee.{of_bits}',
-           'use Rattle.exponential_tables.specs.declared.Pair.{Pair}']
+           'use Rattle.machine.specs.declared.pair.Pair.{Pair}']
     for name, what, index, entries in TABLES:
         for part, column in (('high', [h for h, _ in entries]), ('low', [l for _, l in entries])):
             out += ['', '-- %s, the %s' % (what, 'leading 26 digits' if part == 'high' else 'rest'), 'unfoldable pub %s_%s : List Float' % (name, part), '%s_%s =' % (name, part)]

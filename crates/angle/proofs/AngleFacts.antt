@@ -19,23 +19,23 @@ use Rattle.angle.proofs.Arc.{ArcSize, arc-size}
 use Rattle.angle.proofs.Sides.{negative-is, magnitude-fits, magnitude-above, sides-ordered, scaled-ranged}
 use Rattle.angle.specs.Angle.{infinity, grid, negative, leading, larger_of, smaller_of, sides_of, times, flat, even, lowered_of, raised_of, scaled_of, step_of, tangent_of, series_of, joined_of, tabled_arc_of, arc_of, away_of, back_of, quarter_turn, half_turn, turned_of, upper_of, angle_of}
 use Rattle.angle_tables.specs.Tables.{atan_high, atan_low, tabled_of}
-use Rattle.angle_tables.specs.declared.tables.Sum.{Sum}
+use Rattle.machine.specs.declared.pair.Pair.{Pair}
 
 -- ---- finite
-away-size : (c a : Sum) → Mag binary64 1076 c.high → Mag binary64 1076 c.low → ArcSize a → Mag binary64 1102 (away_of c a)
+away-size : (c a : Pair) → Mag binary64 1076 c.hi → Mag binary64 1076 c.lo → ArcSize a → Mag binary64 1102 (away_of c a)
 unfolding away_of
 away-size c a h l m =
-    let top : Mag binary64 1079 (add binary64 c.high a.high) = mag-add h m.high (lit< tt) (lit< tt) (lit≤ tt) in
-    let less : Mag binary64 1080 (sub binary64 c.high (add binary64 c.high a.high)) = mag-sub h top (lit< tt) (lit< tt) (lit≤ tt) in
-    let carried : Mag binary64 1081 (add binary64 (sub binary64 c.high (add binary64 c.high a.high)) a.high) = mag-add less m.high (lit< tt) (lit< tt) (lit≤ tt) in
-    let lows : Mag binary64 1100 (add binary64 c.low a.low) = mag-add l m.low (lit< tt) (lit< tt) (lit≤ tt) in
+    let top : Mag binary64 1079 (add binary64 c.hi a.hi) = mag-add h m.high (lit< tt) (lit< tt) (lit≤ tt) in
+    let less : Mag binary64 1080 (sub binary64 c.hi (add binary64 c.hi a.hi)) = mag-sub h top (lit< tt) (lit< tt) (lit≤ tt) in
+    let carried : Mag binary64 1081 (add binary64 (sub binary64 c.hi (add binary64 c.hi a.hi)) a.hi) = mag-add less m.high (lit< tt) (lit< tt) (lit≤ tt) in
+    let lows : Mag binary64 1100 (add binary64 c.lo a.lo) = mag-add l m.low (lit< tt) (lit< tt) (lit≤ tt) in
     mag-add {m = 1101} top (mag-add carried lows (lit< tt) (lit< tt) (lit≤ tt)) (lit< tt) (lit< tt) (lit≤ tt)
 
-back-size : (a : Sum) → ArcSize a → ArcSize (back_of a)
+back-size : (a : Pair) → ArcSize a → ArcSize (back_of a)
 unfolding back_of
 back-size a m = record { high = mag-neg m.high; low = mag-neg m.low }
 
-turned-size : (a : Sum) (steep left : Bool) → ArcSize a → Mag binary64 1102 (turned_of a steep left)
+turned-size : (a : Pair) (steep left : Bool) → ArcSize a → Mag binary64 1102 (turned_of a steep left)
 unfolding turned_of
 turned-size a true true m = away-size quarter_turn a (unfold quarter_turn of_bits mag_test in mag-literal tt) (unfold quarter_turn of_bits mag_test in mag-literal tt) m
 turned-size a true false m = away-size quarter_turn (back_of a) (unfold quarter_turn of_bits mag_test in mag-literal tt) (unfold quarter_turn of_bits mag_test in mag-literal tt) (back-size a m)

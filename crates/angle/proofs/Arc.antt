@@ -22,7 +22,7 @@ use Rattle.angle_tables.specs.Tables.{atan_high, atan_low, tabled_of}
 use Rattle.angle.specs.shapes.Range.{lowest, highest, Ranged}
 use Rattle.angle.specs.declared.angle.Triangle.{Triangle}
 use Rattle.angle.specs.declared.angle.Tangent.{Tangent}
-use Rattle.angle_tables.specs.declared.tables.Sum.{Sum}
+use Rattle.machine.specs.declared.pair.Pair.{Pair}
 
 -- ---- up to the tangent's value. h is a's leading digits
 abbrev pub above_of : Float → Float → Float → Float
@@ -228,17 +228,17 @@ series-size v m =
     in
     mag-mul {m = 1088} cube (mag-add {m = 1087} a3 (mag-mul z inner (lit≤ tt) (lit≤ tt)) (lit< tt) (lit< tt) (lit≤ tt)) (lit≤ tt) (lit≤ tt)
 
-pub record ArcSize (a : Sum) : Type 0 where
-  pub high : Mag binary64 1078 a.high
-  pub low : Mag binary64 1099 a.low
+pub record ArcSize (a : Pair) : Type 0 where
+  pub high : Mag binary64 1078 a.hi
+  pub low : Mag binary64 1099 a.lo
 
-joined-size : (base : Sum) (g : Tangent) → Mag binary64 1074 base.high → Mag binary64 1074 base.low → Mag binary64 1077 g.value → Mag binary64 1077 g.high → Mag binary64 1083 g.low → ArcSize (joined_of base g)
+joined-size : (base : Pair) (g : Tangent) → Mag binary64 1074 base.hi → Mag binary64 1074 base.lo → Mag binary64 1077 g.value → Mag binary64 1077 g.high → Mag binary64 1083 g.low → ArcSize (joined_of base g)
 unfolding joined_of
 joined-size base g p q v h l =
-    let top : Mag binary64 1078 (add binary64 base.high g.high) = mag-add p h (lit< tt) (lit< tt) (lit≤ tt) in
-    let less : Mag binary64 1079 (sub binary64 base.high (add binary64 base.high g.high)) = mag-sub p top (lit< tt) (lit< tt) (lit≤ tt) in
-    let carried : Mag binary64 1080 (add binary64 (sub binary64 base.high (add binary64 base.high g.high)) g.high) = mag-add less h (lit< tt) (lit< tt) (lit≤ tt) in
-    let lows : Mag binary64 1084 (add binary64 base.low g.low) = mag-add q l (lit< tt) (lit< tt) (lit≤ tt) in
+    let top : Mag binary64 1078 (add binary64 base.hi g.high) = mag-add p h (lit< tt) (lit< tt) (lit≤ tt) in
+    let less : Mag binary64 1079 (sub binary64 base.hi (add binary64 base.hi g.high)) = mag-sub p top (lit< tt) (lit< tt) (lit≤ tt) in
+    let carried : Mag binary64 1080 (add binary64 (sub binary64 base.hi (add binary64 base.hi g.high)) g.high) = mag-add less h (lit< tt) (lit< tt) (lit≤ tt) in
+    let lows : Mag binary64 1084 (add binary64 base.lo g.low) = mag-add q l (lit< tt) (lit< tt) (lit≤ tt) in
     record {
       high = top;
       low = mag-add {m = 1098} carried (mag-add lows (series-size g.value v) (lit< tt) (lit< tt) (lit≤ tt)) (lit< tt) (lit< tt) (lit≤ tt);
@@ -251,14 +251,14 @@ zero-size = mag-literal tt
 pub arc-size : (s : Triangle) → Ranged s → ArcSize (arc_of s)
 unfolding arc_of tabled_arc_of tabled_of
 arc-size s r =
-    either (λ (a : Sum). ArcSize a) (le s.short (mul binary64 s.long (of_bits binary64 0x3E30000000000000)))
-    (record { high = div binary64 s.short s.long; low = nothing })
+    either (λ (a : Pair). ArcSize a) (le s.short (mul binary64 s.long (of_bits binary64 0x3E30000000000000)))
+    (record { hi = div binary64 s.short s.long; lo = nothing })
     (tabled_arc_of s)
     (record { high = mag-weaken (mag-below (div binary64 s.short s.long) one_size (from_zero (div binary64 s.short s.long) (quotient-between s r).1) (quotient-between s r).2) (lit≤ tt); low = mag-weaken zero-size (lit≤ tt) })
     (joined-size (tabled_of (step_of s).index) (tangent_of s (step_of s).value)
     (high-entry (step_of s).index (index_below s r)) (low-entry (step_of s).index (index_below s r))
     (tangent-value-size s r (step_of s).value (value-between s r)) (tangent-high-size s r (step_of s).value (value-between s r)) (tangent-low-size s r (step_of s).value (value-between s r)))
   where
-    either : (P : Sum → Type 0) (b : Bool) (x y : Sum) → P x → P y → P (cond b x y)
+    either : (P : Pair → Type 0) (b : Bool) (x y : Pair) → P x → P y → P (cond b x y)
     either P true x y p q = p
     either P false x y p q = q

@@ -2,18 +2,18 @@
 use mathlib.Core.Path.{◌≡◌, refl, sym, ap, ◌∙◌, subst, subst₂}
 use mathlib.Core.List.{[], ◌∷◌}
 use mathlib.Core.Bool.{Bool, true, false, not, ◌&&◌, cond}
-use Prim.Native.Nat.{ℕ, ◌%◌, ◌^◌, ◌≤◌}
 use lib.Dec.{T}
-use lib.Ieee.{Float, inf, binary64, of_bits, to_bits, mul, fits, is_nan, lt, le, eq}
+use lib.Ieee.{Float, inf, binary64, of_bits, mul, fits, is_nan, lt, le, eq}
 use lib.Ieee.Fits.{and_i, and_l, and_r, mul-fits}
 use lib.Ieee.Scale.{finite}
-use Rattle.laws.proofs.Value.{sign, bare}
+use Rattle.std.specs.Float.{is_sign_negative}
+use Rattle.laws.proofs.Value.{sign}
 use Rattle.laws.proofs.Order.{nought, lt→le, le-ordered, le-trans-float, finite-between, mul-mono-pos}
-use Rattle.laws.proofs.Bits.{inf_bits, to_bits-sign-bit, to_bits-bare, to_bits-at-most, bare-fits, bare-no-nan, bare-sign}
+use Rattle.laws.proofs.Bits.{to_bits-sign-bit, bare-fits}
 use Rattle.laws.proofs.Interval.{Interval, iv, Expr, var, lit, product, eval, passes, Between, bounded, in-literals}
 use Rattle.machine.specs.Magnitude.{magnitude_of}
 use Rattle.machine.specs.Small.{nothing}
-use Rattle.machine.proofs.MagnitudeFacts.{bare-is}
+use Rattle.machine.proofs.MagnitudeFacts.{bare-is, negative_sign}
 use Rattle.angle.proofs.Ends.{bare-above, not-below, finite-of, positive_of, positive-above, at-most-largest, at-least-smallest}
 use Rattle.angle.specs.Angle.{infinity, negative, larger_of, smaller_of, sides_of, times, flat, even, lowered_of, raised_of, scaled_of}
 use Rattle.angle.specs.shapes.Range.{lowest, highest, Ordered, Ranged}
@@ -39,15 +39,14 @@ pub negative-is : (x : Float) → T (fits binary64 x) → T (not (is_nan x)) →
 unfolding negative
 negative-is x F n = sym (to_bits-sign-bit x F n)
 
+pub negative-at : (x : Float) → T (fits binary64 x) → T (not (is_nan x)) → is_sign_negative x ≡ negative x
+negative-at x F n = negative_sign x n ∙ sym (negative-is x F n)
+
 pub magnitude-fits : (x : Float) → T (fits binary64 x) → T (fits binary64 (magnitude_of x))
 magnitude-fits x F = subst (λ (z : Float). T (fits binary64 z)) (bare-is x) (bare-fits x F)
 
 pub magnitude-above : (x : Float) → T (not (is_nan x)) → T (le nothing (magnitude_of x))
 magnitude-above x n = to-zero (magnitude_of x) (subst (λ (z : Float). T (le nought z)) (bare-is x) (bare-above x n))
-
--- the pattern without the sign's bit is no not-a-number's
-pub bare-pattern : (x : Float) → T (fits binary64 x) → T (not (is_nan x)) → to_bits binary64 x % 2 ^ 63 ≤ inf_bits
-bare-pattern x F n = subst (λ (b : ℕ). b ≤ inf_bits) (sym (to_bits-bare x F n)) (to_bits-at-most (bare x) (bare-fits x F) (bare-no-nan x n) (bare-sign x))
 
 -- ---- by size
 is_true : (b : Bool) → b ≡ true → T b

@@ -9,7 +9,7 @@ use Rattle.machine.specs.Magnitude.{magnitude_of}
 use Rattle.machine.specs.Small.{nothing, one}
 use Rattle.angle_tables.specs.Tables.{tabled_of}
 use Rattle.angle.specs.declared.angle.Triangle.{Triangle}
-use Rattle.angle_tables.specs.declared.tables.Sum.{Sum}
+use Rattle.machine.specs.declared.pair.Pair.{Pair}
 use Rattle.angle.specs.declared.angle.Tangent.{Tangent}
 use Rattle.angle.specs.declared.angle.Step.{Step}
 
@@ -120,61 +120,61 @@ series_of v =
     mul binary64 (mul binary64 v z) (add binary64 (of_bits binary64 0xBFD5555555555547) (mul binary64 z inner))
 
 -- the tabled angle at the step and the arc of the tangent that is left
-unfoldable pub joined_of : Sum → Tangent → Sum
+unfoldable pub joined_of : Pair → Tangent → Pair
 joined_of base rest =
-    let high = add binary64 base.high rest.high in
-    let carried = add binary64 (sub binary64 base.high high) rest.high in
+    let high = add binary64 base.hi rest.high in
+    let carried = add binary64 (sub binary64 base.hi high) rest.high in
     record {
-      high = high;
-      low = add binary64 carried (add binary64 (add binary64 base.low rest.low) (series_of rest.value));
+      hi = high;
+      lo = add binary64 carried (add binary64 (add binary64 base.lo rest.low) (series_of rest.value));
     }
 
-unfoldable pub tabled_arc_of : Triangle → Sum
+unfoldable pub tabled_arc_of : Triangle → Pair
 tabled_arc_of s = let step = step_of s in joined_of (tabled_of step.index) (tangent_of s step.value)
 
 -- up to 2^-28 the arc is its tangent
-unfoldable pub arc_of : Triangle → Sum
+unfoldable pub arc_of : Triangle → Pair
 arc_of s =
     cond (le s.short (mul binary64 s.long (of_bits binary64 0x3E30000000000000)))
     (record {
-      high = div binary64 s.short s.long;
-      low = nothing;
+      hi = div binary64 s.short s.long;
+      lo = nothing;
     })
     (tabled_arc_of s)
 
 -- ---- the quadrant
 
 -- the sum of two unevaluated sums, of which the first is the larger
-unfoldable pub away_of : Sum → Sum → Float
+unfoldable pub away_of : Pair → Pair → Float
 away_of from by =
-    let s = add binary64 from.high by.high in
-    let carried = add binary64 (sub binary64 from.high s) by.high in
-    add binary64 s (add binary64 carried (add binary64 from.low by.low))
+    let s = add binary64 from.hi by.hi in
+    let carried = add binary64 (sub binary64 from.hi s) by.hi in
+    add binary64 s (add binary64 carried (add binary64 from.lo by.lo))
 
-unfoldable pub back_of : Sum → Sum
+unfoldable pub back_of : Pair → Pair
 back_of arc = record {
-  high = neg arc.high;
-  low = neg arc.low;
+  hi = neg arc.hi;
+  lo = neg arc.lo;
 }
 
 -- π/2 and π: 1.5707963267948966 + 6.123233995736766e-17, 3.141592653589793 + 1.2246467991473532e-16
-unfoldable pub quarter_turn : Sum
+unfoldable pub quarter_turn : Pair
 quarter_turn = record {
-  high = of_bits binary64 0x3FF921FB54442D18;
-  low = of_bits binary64 0x3C91A62633145C07;
+  hi = of_bits binary64 0x3FF921FB54442D18;
+  lo = of_bits binary64 0x3C91A62633145C07;
 }
 
-unfoldable pub half_turn : Sum
+unfoldable pub half_turn : Pair
 half_turn = record {
-  high = of_bits binary64 0x400921FB54442D18;
-  low = of_bits binary64 0x3CA1A62633145C07;
+  hi = of_bits binary64 0x400921FB54442D18;
+  lo = of_bits binary64 0x3CA1A62633145C07;
 }
 
 -- steep: y is the longer side; left: x has a minus sign
-unfoldable pub turned_of : Sum → Bool → Bool → Float
+unfoldable pub turned_of : Pair → Bool → Bool → Float
 turned_of arc steep left =
     cond steep (cond left (away_of quarter_turn arc) (away_of quarter_turn (back_of arc)))
-    (cond left (away_of half_turn (back_of arc)) (add binary64 arc.high arc.low))
+    (cond left (away_of half_turn (back_of arc)) (add binary64 arc.hi arc.lo))
 
 -- the angle of a point above the axis, by the magnitudes of y and x and the side of x
 unfoldable pub upper_of : Float → Float → Bool → Float

@@ -1,16 +1,18 @@
 // The angle of the point (x, y), atan2(y, x): the arc of shorter side / longer side from a table at 64ths and a series, then turned
 // into its quadrant. Own design, after the table method; DLMF 4.24.3 for the series, 4.24.15 for the step from a tabled arc.
 // Promised: the angle is the definition of specs/Angle.antt at every pair. Measured: 0.54 units in the last place.
-ghost use Rattle.std.specs.Prelude.{◌≡◌, not, ◌&&◌, T};
-ghost use Rattle.std.specs.Float.Ieee.{is_nan, le};
+ghost use Rattle.std.specs.Prelude.{◌≡◌, ◌&&◌, T};
+ghost use Rattle.std.specs.Float.Ieee.{le};
 ghost use Rattle.machine.specs.Small.{nothing, one};
-ghost use Rattle.angle.specs.Angle.{negative, leading, larger_of, smaller_of, sides_of, lowered_of, raised_of, scaled_of};
+ghost use Rattle.angle.specs.Angle.{larger_of, smaller_of, sides_of, lowered_of, raised_of, scaled_of};
 ghost use Rattle.angle.specs.Angle.{step_of, tangent_of, series_of, joined_of, tabled_arc_of, arc_of, turned_of, away_of, upper_of, angle_of};
 ghost use Rattle.angle.specs.shapes.Range.{Ranged};
 
-use angle_tables::tables::{Sum, tabled};
+use angle_tables::tables::tabled;
+use machine::bits::leading_digits;
 use machine::constants;
 use machine::magnitude::magnitude;
+use machine::pair::Pair;
 
 // atan v = v + A3 v^3 + A5 v^5 + A7 v^7, fitted to |v| <= 1/128
 const A3: f64 = -0.33333333333333254;
@@ -44,22 +46,7 @@ pub struct Step {
     pub value: f64,
 }
 
-fn is_negative(x: f64) -> bool
-    requires { T (not (is_nan x)) }
-    ensures { result ≡ negative x }
-{
-    f64::to_bits(x) >= 0x8000000000000000
-}
-
-// The leading 26 digits: a product of two such numbers is exact.
-fn leading_digits(x: f64) -> f64
-    requires { T (not (is_nan x)) }
-    ensures { result ≡ leading x }
-{
-    let u = f64::to_bits(x);
-    f64::from_bits(u - u % 0x8000000)
-}
-
+// `y.max(x)` would ask besides whether one of the two is no number, and promises less of two that are equal.
 fn larger(y: f64, x: f64) -> f64
     ensures { result ≡ larger_of y x }
 {
@@ -183,18 +170,18 @@ fn series(v: f64) -> f64
 }
 
 // A tabled angle and the arc of the tangent left, added so that nothing is lost.
-fn joined(base: Sum, rest: Tangent) -> Sum
+fn joined(base: Pair, rest: Tangent) -> Pair
     ensures { result ≡ joined_of base rest }
 {
-    let high = base.high + rest.high;
-    let carried = (base.high - high) + rest.high;
-    Sum {
-        high,
-        low: carried + ((base.low + rest.low) + series(rest.value)),
+    let high = base.hi + rest.high;
+    let carried = (base.hi - high) + rest.high;
+    Pair {
+        hi: high,
+        lo: carried + ((base.lo + rest.low) + series(rest.value)),
     }
 }
 
-fn tabled_arc(s: Triangle) -> Sum
+fn tabled_arc(s: Triangle) -> Pair
     requires { Ranged s }
     ensures { result ≡ tabled_arc_of s }
 {
@@ -203,40 +190,40 @@ fn tabled_arc(s: Triangle) -> Sum
 }
 
 // The angle between the longer side and the point's radius. Below 2^-28 it is its tangent, to the last digit.
-fn arc(s: Triangle) -> Sum
+fn arc(s: Triangle) -> Pair
     requires { Ranged s }
     ensures { result ≡ arc_of s }
 {
     if s.short <= s.long * 3.725290298461914e-9 {
-        return Sum {
-            high: s.short / s.long,
-            low: 0.0,
+        return Pair {
+            hi: s.short / s.long,
+            lo: 0.0,
         };
     }
     tabled_arc(s)
 }
 
 // A constant in two parts plus an angle in two parts.
-fn away(from: Sum, by: Sum) -> f64
+fn away(from: Pair, by: Pair) -> f64
     ensures { result ≡ away_of from by }
 {
-    let s = from.high + by.high;
-    let carried = (from.high - s) + by.high;
-    s + (carried + (from.low + by.low))
+    let s = from.hi + by.hi;
+    let carried = (from.hi - s) + by.hi;
+    s + (carried + (from.lo + by.lo))
 }
 
 // Into the upper half plane's quadrants: θ, π/2 - θ, π/2 + θ, π - θ. Steep: y is the longer side. Left: x has a minus sign.
-fn turned(arc: Sum, steep: bool, left: bool) -> f64
+fn turned(arc: Pair, steep: bool, left: bool) -> f64
     ensures { result ≡ turned_of arc steep left }
 {
-    let back = Sum {
-        high: -arc.high,
-        low: -arc.low,
+    let back = Pair {
+        hi: -arc.hi,
+        lo: -arc.lo,
     };
     if steep {
-        let quarter = Sum {
-            high: 1.5707963267948966,
-            low: 6.123233995736766e-17,
+        let quarter = Pair {
+            hi: 1.5707963267948966,
+            lo: 6.123233995736766e-17,
         };
         if left {
             return away(quarter, arc);
@@ -244,13 +231,13 @@ fn turned(arc: Sum, steep: bool, left: bool) -> f64
         return away(quarter, back);
     }
     if left {
-        let half = Sum {
-            high: 3.141592653589793,
-            low: 1.2246467991473532e-16,
+        let half = Pair {
+            hi: 3.141592653589793,
+            lo: 1.2246467991473532e-16,
         };
         return away(half, back);
     }
-    arc.high + arc.low
+    arc.hi + arc.lo
 }
 
 // The angle of a point above the axis, by the magnitudes of its parts and the side that it lies on.
@@ -270,8 +257,8 @@ pub fn angle(y: f64, x: f64) -> f64
     if x != x {
         return constants::not_a_number();
     }
-    let r = upper(magnitude(y), magnitude(x), is_negative(x));
-    if is_negative(y) {
+    let r = upper(magnitude(y), magnitude(x), x.is_sign_negative());
+    if y.is_sign_negative() {
         return -r;
     }
     r

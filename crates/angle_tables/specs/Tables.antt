@@ -2,7 +2,7 @@
 use Rattle.std.specs.Prelude.{List, [], ◌∷◌, ℕ, get_or, Float}
 use Rattle.std.specs.Float.{nan, binary64}
 use Rattle.std.specs.Float.Ieee.{of_bits, neg}
-use Rattle.angle_tables.specs.declared.tables.Sum.{Sum}
+use Rattle.machine.specs.declared.pair.Pair.{Pair}
 
 -- the nearest f64
 unfoldable pub atan_high : List Float
@@ -144,8 +144,8 @@ atan_low =
     of_bits binary64 0x3C81A62633145C07 ∷
     []
 
-unfoldable pub tabled_of : ℕ → Sum
+unfoldable pub tabled_of : ℕ → Pair
 tabled_of j = record {
-  high = get_or atan_high j nan;
-  low = get_or atan_low j nan;
+  hi = get_or atan_high j nan;
+  lo = get_or atan_low j nan;
 }

@@ -71,7 +71,8 @@ fn halves(a: f64) -> Reduced
 {
     let t = 2.0 * a + SHIFT;
     let r = a - 0.5 * (t - SHIFT);
-    let h = leading_digits(r);
+    // where a is no number or infinite, r is no number, and has no digits
+    let h = if r != r { r } else { leading_digits(r) };
     let p = h * PI_HIGH;
     let q = h * PI_LOW + (r - h) * PI;
     let hi = p + q;

@@ -11,7 +11,7 @@ use lib.Ieee.Positive.{num, den, den_pos}
 use lib.Ieee.Scale.{finite}
 use Rattle.laws.proofs.Order.{neg-anti, lt→le}
 use Rattle.laws.proofs.Value.{bare}
-use Rattle.exponential_tables.specs.declared.Pair.{Pair}
+use Rattle.machine.specs.declared.pair.Pair.{Pair}
 use Rattle.exponential.specs.Exp.{limit, lower_limit, exp_pair, half_exp_far}
 use Rattle.exponential.proofs.Ranges.{Parts}
 use Rattle.exponential.proofs.ExpFacts.{pair_parts}

@@ -6,7 +6,7 @@ use lib.Dec.{T}
 use lib.Ieee.{Float, binary64, of_bits, neg}
 use lib.Ieee.Scale.{finite}
 use Rattle.laws.proofs.Interval.{Interval, iv, In, Expr, var, lit, sum, difference, product, quotient, share, eval, passes, Inside, Between, bounded, in-literals}
-use Rattle.exponential_tables.specs.declared.Pair.{Pair}
+use Rattle.machine.specs.declared.pair.Pair.{Pair}
 use Rattle.exponential.specs.Exp as exp
 use Rattle.exponential.specs.Sinh.{half_difference}
 use Rattle.exponential.specs.Cosh.{half_sum}

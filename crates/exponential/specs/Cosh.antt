@@ -5,7 +5,7 @@ use Rattle.std.specs.Float.Ieee.{of_bits, lt, le}
 use Rattle.laws.specs.Operators.{◌⊕◌, ◌⊖◌, ◌⊗◌, ◌⊘◌}
 use Rattle.machine.specs.Small.{half, one}
 use Rattle.exponential.specs.Exp.{limit, exp_pair, half_exp_far}
-use Rattle.exponential_tables.specs.declared.Pair.{Pair}
+use Rattle.machine.specs.declared.pair.Pair.{Pair}
 
 -- below 1: the even polynomial of degree 14, the rounding error of 1 + z/2 put back
 unfoldable pub cosh_small : Float → Float

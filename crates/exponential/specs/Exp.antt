@@ -6,7 +6,7 @@ use Rattle.std.specs.Float.Ieee.{of_bits, to_bits, neg, lt, le, ne}
 use Rattle.machine.specs.Small.{half, nothing}
 use Rattle.laws.specs.Operators.{◌⊕◌, ◌⊖◌, ◌⊗◌}
 use Rattle.exponential_tables.specs.Tables.{coarse_power, fine_power}
-use Rattle.exponential_tables.specs.declared.Pair.{Pair}
+use Rattle.machine.specs.declared.pair.Pair.{Pair}
 
 -- 705 and -705
 unfoldable pub limit : Float

@@ -6,9 +6,9 @@ ghost use Rattle.std.specs.Float.Ieee.{le, lt, of_bits};
 ghost use Rattle.std.specs.Float.{binary64};
 ghost use Rattle.exponential.specs.Exp.{limit, lower_limit, growth, product, exp_pair, square, total, exp_far, exp_of, half_exp_far};
 
-use exponential_tables::Pair;
 use exponential_tables::tables::{coarse, fine};
 use machine::constants::not_a_number;
+use machine::pair::Pair;
 
 // 1.5 * 2^47: a sum with it has 1/32 for its last digit
 const SHIFT: f64 = 211106232532992.0;

@@ -2,11 +2,12 @@
 // put back. DLMF 4.28.1. Promised: sinh_of for every x; odd; finite up to 705 in magnitude (proofs/SinhFacts.antt). Measured: 0.822 units in
 // the last place up to 705, 1.1 beyond.
 ghost use Rattle.std.specs.Prelude.{◌≡◌};
-ghost use Rattle.exponential.specs.Sinh.{sinh_small, half_difference, sinh_magnitude, sinh_of};
+ghost use Rattle.exponential.specs.Sinh.{sinh_small, half_difference, sinh_of};
 
-use crate::exp::{exp_pair, half_exp_far};
-use exponential_tables::Pair;
+use crate::by_magnitude::by_magnitude;
 use machine::constants::not_a_number;
+use machine::magnitude::magnitude;
+use machine::pair::Pair;
 
 const C3: f64 = 0.16666666666666666;
 
@@ -28,21 +29,8 @@ pub fn sinh(x: f64) -> f64
     if x != x {
         return not_a_number();
     }
-    let b = f64::to_bits(x);
-    let r = sinh_magnitude(f64::from_bits(b % 0x8000000000000000));
-    if b >= 0x8000000000000000 { -r } else { r }
-}
-
-fn sinh_magnitude(a: f64) -> f64
-    ensures { result ≡ sinh_magnitude a }
-{
-    if a < 1.0 {
-        return sinh_small(a);
-    }
-    if a <= 705.0 {
-        return half_difference(exp_pair(a));
-    }
-    half_exp_far(a)
+    let r = by_magnitude(magnitude(x), sinh_small, half_difference);
+    if x.is_sign_negative() { -r } else { r }
 }
 
 // a + a^3 p(a^2), the coefficients fitted to the range.

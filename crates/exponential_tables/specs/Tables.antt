@@ -3,7 +3,7 @@
 use Rattle.std.specs.Prelude.{List, [], ◌∷◌, ℕ, get_or, Float}
 use Rattle.std.specs.Float.{nan, binary64}
 use Rattle.std.specs.Float.Ieee.{of_bits}
-use Rattle.exponential_tables.specs.declared.Pair.{Pair}
+use Rattle.machine.specs.declared.pair.Pair.{Pair}
 
 -- e^(8(i-88)), the leading 26 digits
 unfoldable pub coarse_high : List Float

@@ -2,10 +2,3 @@
 #![tactic(auto)]
 
 pub mod tables;
-
-// A value as a leading part and what is left of it.
-#[derive(Clone, Copy)]
-pub struct Pair {
-    pub hi: f64,
-    pub lo: f64,
-}

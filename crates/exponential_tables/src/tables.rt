@@ -4,7 +4,7 @@
 ghost use Rattle.std.specs.Prelude.{◌≡◌, ◌<◌};
 ghost use Rattle.exponential_tables.specs.Tables.{coarse_power, fine_power};
 
-use crate::Pair;
+use machine::pair::Pair;
 
 // e^(8(i-88))
 pub fn coarse(i: usize) -> Pair

@@ -1,12 +1,13 @@
 -- The magnitude by the pattern without the sign's bit, and by comparisons of the value itself. Assumes nothing.
 use mathlib.Core.Path.{◌≡◌, refl, sym, ap, ◌∙◌, subst}
 use mathlib.Core.Bool.{Bool, true, false, not, ◌||◌}
-use Prim.Native.Nat.{◌*◌, ◌%◌, ◌^◌}
+use Prim.Native.Nat.{ℕ, ◌*◌, ◌%◌, ◌^◌, ◌≤◌}
 use lib.Dec.{T, ltb}
 use lib.Ieee.{Float, nan, inf, fin, binary64, up, down, fits, is_nan, nan_bits, of_bits, to_bits, neg, lt}
 use lib.Ieee.Bits.{of_bits-to_bits, nan_bits_is}
-use Rattle.laws.proofs.Value.{bare}
-use Rattle.laws.proofs.Bits.{of_bits-bare}
+use Rattle.std.specs.Float.{is_sign_negative}
+use Rattle.laws.proofs.Value.{sign, bare}
+use Rattle.laws.proofs.Bits.{inf_bits, of_bits-bare, to_bits-bare, to_bits-at-most, bare-fits, bare-no-nan, bare-sign}
 use Rattle.machine.specs.Magnitude.{magnitude_of}
 
 -- ---- by the pattern
@@ -27,6 +28,17 @@ magnitude-number (fin s m e) h = tt
 
 pub magnitude-no-nan : (x : Float) → T (fits binary64 x) → T (not (is_nan x)) → T (not (nan_bits binary64 (to_bits binary64 x % 2 ^ 63)))
 magnitude-no-nan x F h = subst (λ (b : Bool). T (not b)) (sym (nan_bits_is binary64 (to_bits binary64 x % 2 ^ 63) ∙ ap is_nan (magnitude-is x F))) (magnitude-number x h)
+
+-- the pattern without the sign's bit is no not-a-number's
+pub bare-pattern : (x : Float) → T (fits binary64 x) → T (not (is_nan x)) → to_bits binary64 x % 2 ^ 63 ≤ inf_bits
+bare-pattern x F n = subst (λ (b : ℕ). b ≤ inf_bits) (sym (to_bits-bare x F n)) (to_bits-at-most (bare x) (bare-fits x F) (bare-no-nan x n) (bare-sign x))
+
+-- the library's test of the sign
+pub negative_sign : (x : Float) → T (not (is_nan x)) → is_sign_negative x ≡ sign x
+unfolding is_sign_negative is_nan
+negative_sign nan h = absurd h
+negative_sign (inf s) h = refl
+negative_sign (fin s m e) h = refl
 
 -- ---- above a number above zero
 or-false : (b : Bool) → b ≡ b || false

@@ -1,8 +1,8 @@
 // The bits of any f64 and back, for every pattern: a not-a-number is always the fixed one. `f64::to_bits` and `f64::from_bits`, on which they
 // stand, ask for a number.
-ghost use Rattle.std.specs.Prelude.{◌≡◌, ◌-◌, ◌%◌};
+ghost use Rattle.std.specs.Prelude.{◌≡◌, ◌-◌, ◌%◌, not, T};
 ghost use Rattle.std.specs.Float.{binary64};
-ghost use Rattle.std.specs.Float.Ieee.{to_bits, of_bits};
+ghost use Rattle.std.specs.Float.Ieee.{to_bits, of_bits, is_nan};
 
 use crate::constants::not_a_number;
 
@@ -26,10 +26,11 @@ pub fn of_pattern(b: u64) -> f64
     f64::from_bits(b)
 }
 
-// The leading 26 digits, of a not-a-number the fixed one: a product of two such numbers is exact.
+// The leading 26 digits: a product of two such numbers is exact.
 pub fn leading_digits(x: f64) -> f64
+    requires { T (not (is_nan x)) }
     ensures { result ≡ of_bits binary64 (to_bits binary64 x - to_bits binary64 x % 0x8000000) }
 {
-    let bits = pattern(x);
-    of_pattern(bits - bits % 0x8000000)
+    let bits = f64::to_bits(x);
+    f64::from_bits(bits - bits % 0x8000000)
 }

@@ -5,6 +5,7 @@ ghost use Rattle.std.specs.Float.{binary64};
 ghost use Rattle.std.specs.Float.Ieee.{of_bits, lt};
 ghost use Rattle.machine.specs.Magnitude.{magnitude_of};
 
+// `x.abs()` of the library has the same value by two comparisons with 0 and a choice, this by one operation on the bits.
 pub fn magnitude(x: f64) -> f64
     ensures { result ≡ magnitude_of x }
 {

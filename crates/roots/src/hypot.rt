@@ -5,7 +5,7 @@
 ghost use Rattle.std.specs.Prelude.{◌≡◌, false, ◌&&◌, ◌+◌, ◌*◌, ◌/◌, ◌%◌, ◌^◌};
 ghost use Rattle.std.specs.Float.{binary64};
 ghost use Rattle.std.specs.Float.Ieee.{of_bits, le};
-ghost use Rattle.roots.specs.Hypot.{infinite, sum_of_squares, least_sum, greatest_sum, scaled_hypot, hypot_of};
+ghost use Rattle.roots.specs.Hypot.{sum_of_squares, least_sum, greatest_sum, scaled_hypot, hypot_of};
 
 use crate::seed::twice_root;
 use machine::bits::pattern;
@@ -18,12 +18,6 @@ fn half_power(u: u64) -> f64
     ensures { result ≡ of_bits binary64 ((u % 2 ^ 63 / 2 ^ 52 + 1021) / 2 * 2 ^ 52) }
 {
     f64::from_bits((u % 0x8000000000000000 / 0x0010000000000000 + 1021) / 2 * 0x0010000000000000)
-}
-
-fn is_infinite(x: f64) -> bool
-    ensures { result ≡ infinite x }
-{
-    pattern(x) % 0x8000000000000000 == 0x7FF0000000000000
 }
 
 fn scaled(a: f64, b: f64, x: f64, y: f64) -> f64
@@ -40,16 +34,10 @@ fn outside(x: f64, y: f64) -> f64
     requires { (le least_sum (sum_of_squares x y) && le (sum_of_squares x y) greatest_sum) ≡ false }
     ensures { result ≡ hypot_of x y }
 {
-    if is_infinite(x) {
+    if x.is_infinite() || y.is_infinite() {
         return 1.0 / 0.0;
     }
-    if is_infinite(y) {
-        return 1.0 / 0.0;
-    }
-    if x != x {
-        return not_a_number();
-    }
-    if y != y {
+    if x != x || y != y {
         return not_a_number();
     }
     if x == 0.0 {

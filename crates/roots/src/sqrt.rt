@@ -19,6 +19,7 @@ fn chosen(a: u64, b: u64, below: u64, other: u64) -> u64
 // The whole number nearest to the root of n * 2^52. A unit is what the last digit found is worth, the next being worth half of it. With q the
 // root so far and e the unit, `twice` is 2q and `left` is 2(n * 2^52 - q * q) / e: what is left of the number less the square so far. A digit
 // of worth d = e / 2 takes off (q + d)(q + d) - q * q = (2q + d)d, hence the trial 2q + d. The first digit is a 1.
+// The unit is also the count of the turns: `for _ in 0..52` would keep a second one beside it.
 // Nothing is a branch, which would be guessed wrong every other time, and what a digit takes off is chosen while `left` is doubled.
 fn nearest(n: u64) -> u64
     requires { (2 ^ 52 ≤ n) × (n < 2 ^ 54) }

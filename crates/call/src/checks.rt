@@ -31,7 +31,6 @@ pub fn finite_checked(v: f64, re: f64, im: f64) -> Result<(), Refusal>
     refused_if(!are_finite(v, re, im), Refusal::NotFinite)
 }
 
-#[tactic(auto, unfolding(crate::specs::Checks::verdict_of, crate::specs::Checks::verdict_from, crate::specs::Checks::refused_if, crate::specs::Checks::limit_checks))]
 pub fn limits_checked(v: f64, re: f64, im: f64) -> Result<(), Refusal>
     ensures { result ≡ verdict_of (limit_checks v re im) }
 {

@@ -1,10 +1,10 @@
 use Prim.Native.Nat.{◌-◌}
-use lib.ListN.{length, take}
+use lib.ListN.{length}
 use Rattle.sweep.proofs.ChunkFacts.{Consumed}
-use Rattle.sweep.proofs.serve.consume.Given as goal
+use Rattle.sweep.proofs.serve.Sweeper.consume.Given as goal
 
 abbrev pub invariant-loop-at : goal.invariant-loop-at
-invariant-loop-at l = Consumed l.chunk (take l.initial.last.held l.initial.line) l.initial.last (length l.initial.out) l.line l.out l.at l.last
+invariant-loop-at l = Consumed l.chunk l.initial.self.line l.initial.self.turn l.self.line l.at l.self.turn
 
 abbrev pub decreases-loop-at : goal.decreases-loop-at
 decreases-loop-at l = length l.chunk - l.at

@@ -3,3 +3,4 @@ pub mod Lines
 pub mod Cut
 pub mod Count
 pub mod State
+pub mod Serving

@@ -7,11 +7,5 @@ const MOST: u64 = 9223372036854775808;
 pub fn count(before: u64, more: u64) -> u64
     ensures { result ≡ counted (before + more) }
 {
-    if more >= MOST {
-        return MOST;
-    }
-    if before >= MOST - more {
-        return MOST;
-    }
-    before + more
+    before.saturating_add(more).min(MOST)
 }

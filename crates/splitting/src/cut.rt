@@ -1,58 +1,97 @@
-// Bytes of a chunk taken in order, as far as the next newline: kept behind what is held of the line already, as far as there is room.
+// A line of an input that comes in parts, held as far as there is room: bytes of a chunk taken in order, as far as the next newline.
 // Promised: Taken of specs/Cut.antt, for every chunk, every cut of it and every room.
-ghost use Rattle.std.specs.Prelude.{◌≡◌, false, [], ◌∷◌, ◌++◌, ◌≤◌, ◌<◌, length, take};
+ghost use Rattle.std.specs.Prelude.{◌≡◌, false, [], ◌∷◌, ◌++◌, ◌≤◌, ◌<◌, eqb, length, take};
 ghost use Rattle.splitting.specs.Cut.{part_of, Taken};
+
+use std::marker::Model;
 
 pub const NEWLINE: u8 = 10;
 
-// The next byte to take, how much of the line is held, and whether it has come to its end.
-#[derive(Clone, Copy)]
+// The next byte to take, and whether the line has come to its end.
+#[derive(Clone, Copy, Debug, PartialEq, Eq)]
 pub struct Piece {
     pub at: usize,
-    pub held: usize,
     pub ended: bool,
 }
 
-// One byte behind what is held, where there is room for it.
-pub fn keep(b: u8, line: &mut [u8], held: usize) -> usize
-    requires { held ≤ length line.old }
-    ensures { (result ≤ length line.old)
-        × (take result line.new ≡ take (length line.old) (take held line.old ++ (b ∷ []))) }
-{
-    if held < line.len() {
-        line[held] = b;
-        return held + 1;
-    }
-    held
+// What is held of a line: its first bytes, at most `N` of them.
+#[derive(Clone, Drop)]
+pub struct Line<const N: usize> {
+    bytes: [u8; N],
+    held: usize,
 }
 
-// Until the line has come to its end, or the chunk has.
-pub fn take_line(chunk: &[u8], from: usize, line: &mut [u8], held: usize) -> Piece
-    requires { (from < length chunk.now) × (held ≤ length line.old) }
-    ensures { (from < result.at)
-        × (result.at ≤ length chunk.now)
-        × (result.held ≤ length line.old)
-        × (result.ended ≡ false → result.at ≡ length chunk.now)
-        × Taken result.ended (length line.old) (take held line.old) (part_of chunk.now from result.at)
-        (take result.held line.new) }
-{
-    let mut at = from;
-    let mut kept = held;
-    while at < chunk.len() {
-        let b = chunk[at];
-        at += 1;
-        if b == NEWLINE {
-            return Piece {
-                at,
-                held: kept,
-                ended: true,
-            };
+// Clauses see the bytes that are held.
+impl<const N: usize> Model for Line<N> {
+    ghost use Rattle.std.specs.Prelude.{List, ℕ, ◌≤◌, take};
+
+    ghost Value = { List ℕ };
+
+    ghost view = { λ l. take l.held l.bytes };
+
+    ghost invariant = { λ l. l.held ≤ N };
+}
+
+impl<const N: usize> Line<N> {
+    pub fn empty() -> Self
+        ensures { result ≡ [] }
+    {
+        Line {
+            bytes: [0; N],
+            held: 0,
         }
-        kept = keep(b, line, kept);
     }
-    Piece {
-        at,
-        held: kept,
-        ended: false,
+
+    pub fn held(&self) -> &[u8]
+        ensures bytes { result.now ≡ self.now }
+        ensures room { length self.now ≤ N }
+    {
+        &self.bytes[..self.held]
+    }
+
+    pub fn is_empty(&self) -> bool
+        ensures { result ≡ eqb (length self.now) 0 }
+    {
+        self.held == 0
+    }
+
+    pub fn clear(&mut self)
+        ensures { self.new ≡ [] }
+    {
+        self.held = 0;
+    }
+
+    // One byte behind what is held, where there is room for it.
+    pub fn keep(&mut self, b: u8)
+        ensures { self.new ≡ take N (self.old ++ (b ∷ [])) }
+    {
+        if self.held < N {
+            self.bytes[self.held] = b;
+            self.held += 1;
+        }
+    }
+
+    // Until the line has come to its end, or the chunk has.
+    pub fn take(&mut self, chunk: &[u8], from: usize) -> Piece
+        requires { from < length chunk.now }
+        ensures { (from < result.at)
+            × (result.at ≤ length chunk.now)
+            × (result.ended ≡ false → result.at ≡ length chunk.now)
+            × Taken result.ended N self.old (part_of chunk.now from result.at) self.new }
+    {
+        for at in from..chunk.len() {
+            let b = chunk[at];
+            if b == NEWLINE {
+                return Piece {
+                    at: at + 1,
+                    ended: true,
+                };
+            }
+            self.keep(b);
+        }
+        Piece {
+            at: chunk.len(),
+            ended: false,
+        }
     }
 }

@@ -8,7 +8,7 @@ const ZERO: u8 = 48;
 const ONE: u8 = 49;
 
 // Going on; everything read and answered; a write that failed; a read that failed.
-#[derive(Clone, Copy)]
+#[derive(Clone, Copy, Debug, PartialEq, Eq)]
 pub enum State {
     Going,
     Whole,
@@ -19,27 +19,16 @@ pub enum State {
 pub fn is_over(state: State) -> bool
     ensures { result ≡ is_over state }
 {
-    match state {
-        State::Going => false,
-        State::Whole => true,
-        State::Unwritten => true,
-        State::Unread => true,
-    }
+    state != State::Going
 }
 
 // As a digit: whether everything was read and written, and nothing refused.
 pub fn status(state: State, refused: u64) -> u8
     ensures { result ≡ status_of state refused }
 {
-    match state {
-        State::Whole => {
-            if refused == 0 {
-                return ZERO;
-            }
-            ONE
-        }
-        State::Going => ONE,
-        State::Unwritten => ONE,
-        State::Unread => ONE,
+    if state == State::Whole && refused == 0 {
+        ZERO
+    } else {
+        ONE
     }
 }

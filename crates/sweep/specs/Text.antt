@@ -17,7 +17,3 @@ pub record Told (k number : ℕ) (text : List ℕ) : Type 0 where
   pub counted : Decimal k which
   pub numbered : Decimal number why
   pub spelled : text ≡ (((request_word ++ which) ++ refusal_word) ++ why) ++ (newline ∷ [])
-
--- both words, two numbers of 20 digits and the newline
-abbrev pub most_text : ℕ
-most_text = 59

@@ -1,5 +1,5 @@
 -- What a line, a read and the whole run come to: what is held, the three counts, and how it ended. Definitions only.
-use Rattle.std.specs.Prelude.{◌≡◌, Bool, cond, ◌⊎◌, List, [], ◌∷◌, ℕ, ◌≤◌, min, eqb, ℤ, pos, negsuc, length, take}
+use Rattle.std.specs.Prelude.{◌≡◌, Bool, cond, ◌⊎◌, List, [], ◌∷◌, ℕ, min, eqb, ℤ, pos, negsuc, length, take}
 use Rattle.splitting.specs.Lines.{last_of, lines_of}
 use Rattle.splitting.specs.Cut.{left_by, left_if, ended_in, closed_if}
 use Rattle.splitting.specs.Count.{total_of, Adds}
@@ -32,34 +32,31 @@ pub record Grown (lines : List (List ℕ)) (before after : Turn) : Type 0 where
   pub refused : Adds before.refused (total_of is_refused lines) after.refused
   pub sent : Adds before.sent (total_of frame_bytes lines) after.sent
 
--- ---- a turn as it was, but over, with nothing held
+-- ---- a turn as it was, but over
 abbrev pub ended_as : Turn → State → Turn
-ended_as turn state = record { held = 0; requests = turn.requests; refused = turn.refused; sent = turn.sent; state = state }
+ended_as turn state = record { requests = turn.requests; refused = turn.refused; sent = turn.sent; state = state }
 
--- ---- after a line: it goes on with nothing held, or a write failed
+-- ---- after a line: it goes on, or a write failed
 pub record Answered (line : List ℕ) (before after : Turn) : Type 0 where
   pub going : after.state ≡ Going
-  pub nothing : after.held ≡ 0
   pub grown : Grown (line ∷ []) before after
 
 abbrev pub AfterLine : List ℕ → Turn → Turn → Type 0
 AfterLine line before after = Answered line before after ⊎ (after.state ≡ Unwritten)
 
 -- ---- after a line as far as it is held, come to its end or not: answered, or held still, or a write failed
-pub record Rested (ended : Bool) (held : ℕ) (line : List ℕ) (before after : Turn) : Type 0 where
+pub record Rested (ended : Bool) (held : List ℕ) (before : Turn) (line : List ℕ) (after : Turn) : Type 0 where
   pub going : after.state ≡ Going
-  pub few : after.held ≤ held
-  pub holds : take after.held line ≡ left_if ended (take held line)
-  pub grown : Grown (closed_if ended (take held line) []) before after
+  pub holds : line ≡ left_if ended held
+  pub grown : Grown (closed_if ended held []) before after
 
-abbrev pub Settled : Bool → ℕ → List ℕ → Turn → Turn → Type 0
-Settled ended held line before after = Rested ended held line before after ⊎ (after.state ≡ Unwritten)
+abbrev pub Settled : Bool → List ℕ → Turn → List ℕ → Turn → Type 0
+Settled ended held before line after = Rested ended held before line after ⊎ (after.state ≡ Unwritten)
 
 -- ---- after some bytes: it goes on, holds what they leave and has answered the lines that they end, or a write failed
 pub record Passed (held bytes : List ℕ) (before : Turn) (line : List ℕ) (after : Turn) : Type 0 where
   pub going : after.state ≡ Going
-  pub few : after.held ≤ most_held
-  pub holds : take after.held line ≡ left_by most_held held bytes
+  pub holds : line ≡ left_by most_held held bytes
   pub grown : Grown (ended_in most_held held bytes) before after
 
 abbrev pub AfterBytes : List ℕ → List ℕ → Turn → List ℕ → Turn → Type 0
@@ -87,15 +84,9 @@ unfoldable pub TakenRead : ℤ → List ℕ → List ℕ → Turn → List ℕ �
 TakenRead (negsuc k) buffer held before line after = Failed before after
 TakenRead (pos k) buffer held before line after = TakenSome (take (min k (length buffer)) buffer) held before line after
 
--- what it reported and brought, which no contract can name
-pub record OneRead (held : List ℕ) (before : Turn) (line : List ℕ) (after : Turn) : Type 0 where
-  pub got : ℤ
-  pub buffer : List ℕ
-  pub taken : TakenRead got buffer held before line after
-
 -- ---- the whole run: of what the reads brought, all lines, or those that were read to their ends; 0 is told where all were, and none was refused
 abbrev pub start : Turn
-start = record { held = 0; requests = 0; refused = 0; sent = 0; state = Going }
+start = record { requests = 0; refused = 0; sent = 0; state = Going }
 
 pub record Served (r : Turn) : Type 0 where
   pub input : List ℕ
@@ -103,3 +94,9 @@ pub record Served (r : Turn) : Type 0 where
   pub unread : r.state ≡ Unread → Grown (ended_in most_held [] input) start r
   pub over : r.state ≡ Going → ⊥
   pub clean : status_of r.state r.refused ≡ 48 → (r.state ≡ Whole) × (total_of is_refused (lines_of input) ≡ 0)
+
+-- ---- as long as it goes on: of what the reads brought, what it leaves is held, and the lines that it ended are counted
+pub record Reached (line : List ℕ) (last : Turn) : Type 0 where
+  pub input : List ℕ
+  pub holds : line ≡ left_by most_held [] input
+  pub grown : Grown (ended_in most_held [] input) start last

@@ -7,38 +7,27 @@ ghost use Rattle.sweep.specs.Text.{Told};
 ghost use Rattle.sweep.specs.Turn.{most_room, AfterLine};
 
 use crate::text::refusal_text;
-use crate::turn::{Turn, ended_as};
+use crate::turn::Turn;
 use splitting::count::count;
 use splitting::state::State;
+use splitting::telling::{STDERR_FILENO, STDOUT_FILENO};
 use sweeping::line::sweep_line;
 
-const STDOUT_FILENO: i32 = 1;
-
-const STDERR_FILENO: i32 = 2;
-
-// The one place where frames leave the program: how many bytes of them the writer took. The line is there for the demand.
-fn send(frames: &[u8], line: &[u8]) -> usize
+// The one place where frames leave the program: whether the writer took them. The line is there for the demand.
+fn send(frames: &[u8], line: &[u8]) -> bool
     requires { frames.now ≡ line_bytes line.now }
-    ensures { result ≤ length frames.now }
 {
-    if io::write_all(STDOUT_FILENO, frames) {
-        return frames.len();
-    }
-    0
+    io::write_all(STDOUT_FILENO, frames)
 }
 
-// The one place where a refusal is told: 1 where the writer took it. The line, and how many requests came before, are there for the demand.
-fn say(text: &[u8], k: u64, before: u64, number: u32, line: &[u8]) -> u64
+// The one place where a refusal is told: whether the writer took it. The line, and how many requests came before, are there for the demand.
+fn say(text: &[u8], k: u64, before: u64, number: u32, line: &[u8]) -> bool
     requires { Told k number text.now
         × (k ≡ counted (before + 1))
         × (number ≡ (line_swept line.now).number)
         × (0 < number) }
-    ensures { result ≤ 1 }
 {
-    if io::write_all(STDERR_FILENO, text) {
-        return 1;
-    }
-    0
+    io::write_all(STDERR_FILENO, text)
 }
 
 fn refuse(number: u32, line: &[u8], turn: Turn) -> Turn
@@ -46,18 +35,18 @@ fn refuse(number: u32, line: &[u8], turn: Turn) -> Turn
     ensures { AfterLine line.now turn result }
 {
     let k = count(turn.requests, 1);
-    let mut text = [0u8; 59];
-    let n = refusal_text(k, number as u64, &mut text);
-    let told = say(&text[0..n], k, turn.requests, number, line);
-    if told < 1 {
-        return ended_as(turn, State::Unwritten);
+    let text = refusal_text(k, u64::from(number));
+    if !say(text.as_bytes(), k, turn.requests, number, line) {
+        return Turn {
+            state: State::Unwritten,
+            ..turn
+        };
     }
     Turn {
-        held: 0,
         requests: k,
-        refused: count(turn.refused, told),
-        sent: turn.sent,
+        refused: count(turn.refused, 1),
         state: State::Going,
+        ..turn
     }
 }
 
@@ -65,16 +54,17 @@ fn accept(frames: &[u8], line: &[u8], turn: Turn) -> Turn
     requires { (frames.now ≡ line_bytes line.now) × ((line_swept line.now).number ≡ 0) }
     ensures { AfterLine line.now turn result }
 {
-    let written = send(frames, line);
-    if written < frames.len() {
-        return ended_as(turn, State::Unwritten);
+    if !send(frames, line) {
+        return Turn {
+            state: State::Unwritten,
+            ..turn
+        };
     }
     Turn {
-        held: 0,
         requests: count(turn.requests, 1),
-        refused: turn.refused,
-        sent: count(turn.sent, written as u64),
+        sent: count(turn.sent, frames.len() as u64),
         state: State::Going,
+        ..turn
     }
 }
 

@@ -4,18 +4,24 @@
 
 mod answer;
 mod serve;
-mod telling;
 mod text;
 mod turn;
 
-use serve::serve;
-use telling::tell;
+use serve::Sweeper;
+use splitting::serving::serve;
+use splitting::state::status;
+use splitting::telling::{loss, tell};
 
 fn main(rt: HostRuntime) {
     let mut stdin = rt.stdin();
-    let mut line = [0u8; 93];
-    let mut out = [0u8; 233472];
-    let last = serve(&mut stdin, &mut line, &mut out);
-    let state = last.state;
-    tell(state, last.refused);
+    let mut sweeper = Sweeper::new();
+    serve(&mut stdin, &mut sweeper);
+    let last = sweeper.turn();
+    let unwritten =
+        b"sweep: the frames and refusals could not be written; the output is not complete\n";
+    let unread = b"sweep: the input could not be read to its end; the output is not complete\n";
+    tell(
+        loss(last.state, unwritten, unread),
+        status(last.state, last.refused),
+    );
 }

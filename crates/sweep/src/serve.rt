@@ -1,126 +1,111 @@
-// The input in reads to its end, each cut into lines. A read that fails is not the end: the lines before it stay answered, and the line that
-// is held is not answered. Promised of one read, whatever it reports and brings: TakenRead of specs/Turn.antt. No contract can say what a
-// read brings, so of the whole run stated is that the counts are those of some input's lines: of the one that the reads brought.
-ghost use Rattle.std.specs.Prelude.{◌≡◌, ◌≤◌, length, take, pos, ◌<ℤ◌, IfOk, OnErr};
+// The program as splitting's reads serve it: a chunk is cut into lines, each answered as soon as it has come to its end. Promised of one read,
+// whatever it reports and brings: TakenRead of specs/Turn.antt; and of the whole run that the counts are those of some input's lines: Served.
+ghost use Rattle.std.specs.Prelude.{◌≡◌};
 ghost use Rattle.splitting.specs.declared.state.State.TheVariants.{Going};
-ghost use Rattle.sweep.specs.Turn.{most_held, most_room, Settled, AfterBytes, AtEnd, TakenRead, OneRead, Served};
+ghost use Rattle.sweep.specs.Turn.{Settled, AfterBytes, AtEnd, TakenRead, Reached, Served};
 
 use crate::answer::answer;
-use crate::turn::{Turn, ended_as};
-use splitting::cut::{Piece, take_line};
+use crate::turn::Turn;
+use splitting::cut::Line;
+use splitting::serving::Server;
 use splitting::state::{State, is_over};
-use std::io::{Error, Read, Stdin};
 
-// A line that has come to its end is answered; of any other the held bytes wait.
-fn settle(piece: Piece, line: &[u8], out: &mut [u8], turn: Turn) -> Turn
-    requires { (piece.held ≤ length line.now) × (most_room ≤ length out.old) × (turn.state ≡ Going) }
-    ensures { Settled piece.ended piece.held line.now turn result }
-{
-    let held = piece.held;
-    if piece.ended {
-        return answer(&line[0..held], out, turn);
-    }
-    Turn {
-        held,
-        requests: turn.requests,
-        refused: turn.refused,
-        sent: turn.sent,
-        state: State::Going,
-    }
+// What is held of a line; room for the frames of the longest sweep; and how far the program is.
+#[derive(Drop)]
+pub struct Sweeper {
+    line: Line<93>,
+    out: [u8; 233472],
+    turn: Turn,
 }
 
-// A whole chunk, line by line. Where a write failed, the program is over.
-fn consume(chunk: &[u8], line: &mut [u8], out: &mut [u8], turn: Turn) -> Turn
-    requires { (length line.old ≡ most_held) × (turn.held ≤ most_held) × (most_room ≤ length out.old) × (turn.state ≡ Going) }
-    ensures { AfterBytes (take turn.held line.old) chunk.now turn line.new result }
-{
-    let mut at = 0;
-    let mut last = turn;
-    while at < chunk.len() {
-        let piece = take_line(chunk, at, line, last.held);
-        last = settle(piece, line, out, last);
-        let state = last.state;
-        if is_over(state) {
-            return last;
+impl Sweeper {
+    pub fn new() -> Self
+        ensures going { result.turn.state ≡ Going }
+        ensures nothing { Reached result.line result.turn }
+    {
+        Sweeper {
+            line: Line::empty(),
+            out: [0; 233472],
+            turn: Turn {
+                requests: 0,
+                refused: 0,
+                sent: 0,
+                state: State::Going,
+            },
         }
-        at = piece.at;
     }
-    last
-}
 
-// The last line may lack its newline: it is answered as if it had one.
-fn finish(line: &[u8], out: &mut [u8], turn: Turn) -> Turn
-    requires { (length line.now ≡ most_held) × (turn.held ≤ most_held) × (most_room ≤ length out.old) }
-    ensures { AtEnd (take turn.held line.now) turn result }
-{
-    let held = turn.held;
-    if held == 0 {
-        return ended_as(turn, State::Whole);
+    pub fn turn(&self) -> Turn
+        ensures { result ≡ self.now.turn }
+    {
+        self.turn
     }
-    let last = answer(&line[0..held], out, turn);
-    let state = last.state;
-    if is_over(state) {
-        return last;
-    }
-    ended_as(last, State::Whole)
-}
 
-// What a read reported and brought: a failure, the end, or some bytes.
-fn take_read(got: isize, input: &[u8], line: &mut [u8], out: &mut [u8], turn: Turn) -> Turn
-    requires { (length line.old ≡ most_held) × (turn.held ≤ most_held) × (most_room ≤ length out.old) × (turn.state ≡ Going) }
-    ensures { TakenRead got input.now (take turn.held line.old) turn line.new result }
-{
-    if got < 0 {
-        return ended_as(turn, State::Unread);
-    }
-    let n = io::count(got, input);
-    if n == 0 {
-        return finish(line, out, turn);
-    }
-    consume(&input[0..n], line, out, turn)
-}
-
-// What a read reported as a number: how many bytes it put at the buffer's start, or less than 0 where it failed.
-fn reported(got: Result<usize, Error>) -> isize
-    requires { IfOk got (λ n. n ≤ 65536) }
-    ensures counted { IfOk got (λ n. result ≡ pos n) }
-    ensures failed { OnErr got (result <ℤ pos 0) }
-{
-    match got {
-        Ok(n) => n as isize,
-        Err(_) => -1,
-    }
-}
-
-fn serve_read(stdin: &mut Stdin, line: &mut [u8], out: &mut [u8], turn: Turn) -> Turn
-    requires { (length line.old ≡ most_held) × (turn.held ≤ most_held) × (most_room ≤ length out.old) × (turn.state ≡ Going) }
-    ensures { OneRead (take turn.held line.old) turn line.new result }
-{
-    let mut input = io::large_buffer();
-    let got = reported(stdin.read(&mut input));
-    take_read(got, &input, line, out, turn)
-}
-
-// A proved loop has to end, and nothing says that an input does: the turns are counted down from a number that no run uses up.
-pub fn serve(stdin: &mut Stdin, line: &mut [u8], out: &mut [u8]) -> Turn
-    requires { (length line.old ≡ most_held) × (most_room ≤ length out.old) }
-    ensures { Served result }
-{
-    let mut last = Turn {
-        held: 0,
-        requests: 0,
-        refused: 0,
-        sent: 0,
-        state: State::Going,
-    };
-    let mut turns = u64::MAX;
-    while turns > 0 {
-        last = serve_read(stdin, line, out, last);
-        let state = last.state;
-        if is_over(state) {
-            return last;
+    // A line that has come to its end is answered; of any other the held bytes wait.
+    fn settle(&mut self, ended: bool)
+        requires { self.old.turn.state ≡ Going }
+        ensures { Settled ended self.old.line self.old.turn self.new.line self.new.turn }
+    {
+        if ended {
+            self.turn = answer(self.line.held(), &mut self.out, self.turn);
+            self.line.clear();
         }
-        turns -= 1;
     }
-    ended_as(last, State::Unread)
+
+    // A whole chunk, line by line. Where a write failed, the program is over.
+    fn consume(&mut self, chunk: &[u8])
+        requires { self.old.turn.state ≡ Going }
+        ensures { AfterBytes self.old.line chunk.now self.old.turn self.new.line self.new.turn }
+    {
+        let mut at = 0;
+        while at < chunk.len() {
+            let piece = self.line.take(chunk, at);
+            self.settle(piece.ended);
+            if is_over(self.turn.state) {
+                return;
+            }
+            at = piece.at;
+        }
+    }
+
+    // The last line may lack its newline: it is answered as if it had one.
+    fn close(&mut self)
+        requires { self.old.turn.state ≡ Going }
+        ensures { AtEnd self.old.line self.old.turn self.new.turn }
+    {
+        if self.line.is_empty() {
+            self.turn.state = State::Whole;
+            return;
+        }
+        self.turn = answer(self.line.held(), &mut self.out, self.turn);
+        if !is_over(self.turn.state) {
+            self.turn.state = State::Whole;
+        }
+    }
+}
+
+impl Server for Sweeper {
+    ghost state_of = { λ s. s.turn.state };
+
+    ghost after_read = { λ got buffer a b. TakenRead got buffer a.line a.turn b.line b.turn };
+
+    ghost reached = { λ s. Reached s.line s.turn };
+
+    ghost served = { λ s. Served s.turn };
+
+    fn state(&self) -> State {
+        self.turn.state
+    }
+
+    fn receive(&mut self, bytes: &[u8]) {
+        self.consume(bytes);
+    }
+
+    fn finish(&mut self) {
+        self.close();
+    }
+
+    fn fail(&mut self) {
+        self.turn.state = State::Unread;
+    }
 }

@@ -1,26 +1,61 @@
-// A piece, or a number in decimal, behind what a lent buffer holds of a text already.
-// Promised: Numbered of specs/Decimal.antt.
-ghost use Rattle.std.specs.Prelude.{◌≡◌, ◌++◌, ◌+◌, ◌≤◌, length, take};
+// A text of at most so many bytes, and a piece, or a number in decimal, behind it. Promised: Numbered of specs/Decimal.antt.
+// It is no fmt::Write, though `write!` would spell a text at once: of `write!` a contract says what was written only where it returns Ok, and
+// none says that it does where there is room, so whoever tells a text would have to say what it tells when it could not be spelled.
+ghost use Rattle.std.specs.Prelude.{◌≡◌, [], ◌++◌, ◌+◌, ◌≤◌, length};
 ghost use Rattle.wording.specs.Decimal.{Numbered};
 
-pub fn put(piece: &[u8], text: &mut [u8], at: usize) -> usize
-    requires { at + length piece.now ≤ length text.old }
-    ensures { (result ≡ at + length piece.now)
-        × (take result text.new ≡ take at text.old ++ piece.now) }
-{
-    let mut i = 0;
-    while i < piece.len() {
-        text[at + i] = piece[i];
-        i += 1;
-    }
-    at + i
+use std::marker::Model;
+
+#[derive(Drop)]
+pub struct Text<const N: usize> {
+    bytes: [u8; N],
+    len: usize,
 }
 
-pub fn put_number(n: u64, text: &mut [u8], at: usize) -> usize
-    requires { at + 20 ≤ length text.old }
-    ensures { (result ≤ at + 20) × Numbered n (take at text.old) (take result text.new) }
-{
-    let mut digits = [0u8; 20];
-    let places = io::decimal(n, &mut digits);
-    put(&digits[0..places], text, at)
+// Clauses see the bytes so far.
+impl<const N: usize> Model for Text<N> {
+    ghost use Rattle.std.specs.Prelude.{List, ℕ, ◌≤◌, take};
+
+    ghost Value = { List ℕ };
+
+    ghost view = { λ t. take t.len t.bytes };
+
+    ghost invariant = { λ t. t.len ≤ N };
+}
+
+impl<const N: usize> Text<N> {
+    pub fn new() -> Self
+        ensures { result ≡ [] }
+    {
+        Text {
+            bytes: [0; N],
+            len: 0,
+        }
+    }
+
+    pub fn as_bytes(&self) -> &[u8]
+        ensures { result.now ≡ self.now }
+    {
+        &self.bytes[..self.len]
+    }
+
+    pub fn put(&mut self, piece: &[u8])
+        requires { length self.old + length piece.now ≤ N }
+        ensures { self.new ≡ self.old ++ piece.now }
+    {
+        let end = self.len + piece.len();
+        let bytes = &mut self.bytes[..];
+        bytes[self.len..end].copy_from_slice(piece);
+        self.len = end;
+    }
+
+    pub fn put_number(&mut self, n: u64)
+        requires { length self.old + 20 ≤ N }
+        ensures room { length self.new ≤ length self.old + 20 }
+        ensures number { Numbered n self.old self.new }
+    {
+        let mut digits = [0u8; 20];
+        let places = io::decimal(n, &mut digits);
+        self.put(&digits[..places]);
+    }
 }

@@ -1,10 +1,10 @@
--- `series_sum::sum::finish` meets its contract: before each turn what is left of the sum, from the state as it is, ends as it did at first.
+-- `Squares::finish` meets its contract: before each turn what is left of the sum, from the state as it is, ends as it did at first.
 -- Assumes nothing.
 use mathlib.Core.Path.{refl, sym, ◌∙◌}
 use Prim.Native.Nat.{◌<◌}
 use native.Mathlib.Omega.{arith}
 use Rattle.series_sum.proofs.SumRun.{next-counts, rest-after, rest-stop}
-use Rattle.series_sum.proofs.sum.finish.Goals as goal
+use Rattle.series_sum.proofs.sum.Squares.finish.Goals as goal
 
 pub loop-s-init : goal.loop-s-init
 loop-s-init c = (c.requires, refl)

@@ -82,7 +82,7 @@ fn is_tabulated(x: f64) -> bool
     ensures { result ≡ is_tabulated x }
 {
     let whole = x + GRID - GRID;
-    if x <= 100.1 { whole == x } else { false }
+    x <= 100.1 && whole == x
 }
 
 fn tabulated(x: f64) -> f64

@@ -10,12 +10,6 @@ use call::checks::Verdict;
 use machine::finite::is_finite;
 use refusal::refusal::Refusal;
 
-#[derive(Clone, Copy)]
-pub enum LogGamma {
-    Value(f64),
-    Refused(Refusal),
-}
-
 fn argument_verdict(x: f64) -> Verdict
     ensures { result ≡ verdict_of (argument_checks x) }
 {
@@ -24,22 +18,22 @@ fn argument_verdict(x: f64) -> Verdict
         .refused_if(x <= 0.0, Refusal::NotPositive)
 }
 
-fn valued(value: f64) -> LogGamma
+fn valued(value: f64) -> Result<f64, Refusal>
     ensures { result ≡ valued_of value }
 {
     if is_finite(value) {
-        LogGamma::Value(value)
+        Ok(value)
     } else {
-        LogGamma::Refused(Refusal::Overflow)
+        Err(Refusal::Overflow)
     }
 }
 
-pub fn log_gamma(x: f64) -> LogGamma
+pub fn log_gamma(x: f64) -> Result<f64, Refusal>
     ensures { outcome_of result ≡ outcome_at x }
 {
     let verdict = argument_verdict(x);
     match verdict {
         Verdict::Admitted => valued(value(x)),
-        Verdict::Refused(refusal) => LogGamma::Refused(refusal),
+        Verdict::Refused(refusal) => Err(refusal),
     }
 }

@@ -1,6 +1,6 @@
 -- `gamma_ln::log_gamma::log_gamma` meets its contract: the verdict, and the value behind it. Assumes nothing.
 use mathlib.Core.Path.{◌≡◌, ap, ◌∙◌}
-use Rattle.gamma_ln.specs.declared.log_gamma.LogGamma.TheVariants.{Refused}
+use Rattle.std.specs.Prelude.{Err}
 use Rattle.gamma_ln.specs.LogGamma.{log_gamma_by, log_gamma_of, outcome_of}
 use Rattle.gamma_ln.proofs.LogGammaFacts.{steps-outcome}
 use Rattle.gamma_ln.proofs.log_gamma.log_gamma.Goals as goal
@@ -17,5 +17,5 @@ pub returns-in-Refused : goal.returns-in-Refused
 unfolding log_gamma_of log_gamma_by
 returns-in-Refused c =
     let d = c in
-    let e : Refused c.in-Refused.refusal ≡ log_gamma_of d.args.x = rw (← d.argument_verdict-verdict.ensures, c.in-Refused.is) in
+    let e : Err c.in-Refused.refusal ≡ log_gamma_of d.args.x = rw (← d.argument_verdict-verdict.ensures, c.in-Refused.is) in
     ap outcome_of e ∙ steps-outcome _

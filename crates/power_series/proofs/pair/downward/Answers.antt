@@ -19,17 +19,17 @@ use Rattle.power_series.proofs.pair.downward.Goals as goal
 pub returns-then-n-lt2 : goal.returns-then-n-lt2
 returns-then-n-lt2 c =
     let e = c.stepwise.ensures in
-    (c.copied.ensures ∙ e.0, e.1)
+    (e.0, e.1)
 
 pub returns-then-first : goal.returns-then-first
 returns-then-first c =
     let e = c.stepwise-then-first.ensures in
-    (c.copied-then-first.ensures ∙ e.0, e.1)
+    (e.0, e.1)
 
 pub returns-then-second : goal.returns-then-second
 returns-then-second c =
     let e = c.stepwise-then-second.ensures in
-    (c.copied-then-second.ensures ∙ e.0, e.1)
+    (e.0, e.1)
 
 pub paired-r-requires : goal.paired-r-requires
 unfolding approximation_limit order_at

@@ -1,5 +1,4 @@
 -- The theorems, by topic: Outcome and RealPath say what a caller gets, the others are what they and the contracts stand on.
-pub mod WholeFacts
 pub mod StartFacts
 pub mod TrialFacts
 pub mod BackwardFacts

@@ -1,6 +1,6 @@
 -- The two seeds K(ν) and K(ν + 1) from Miller's backward steps, ν being the order's fraction. ZBKNU, from label 190 to label 210;
 -- `compute_large_z_miller_seeds` of src/amos/right_half_plane.rs. Definitions only.
-use Rattle.std.specs.Prelude.{ℕ, Bool, cond, Float}
+use Rattle.std.specs.Prelude.{ℕ, Bool, cond, Option, Some, None, Result, Ok, Err, Float}
 use Rattle.std.specs.Float.Ieee.{neg}
 use Rattle.laws.specs.Operators.{◌⊕◌, ◌⊗◌, ◌⊘◌}
 use Rattle.machine.specs.Small.{nothing, half, one}
@@ -8,15 +8,13 @@ use Rattle.machine.specs.Magnitude.{magnitude_of}
 use Rattle.complex.specs.declared.number.Complex.{Complex}
 use Rattle.complex.specs.Functions.{modulus_of}
 use Rattle.complex.specs.Arithmetic.{zero_pair, opposite_of, conjugate_of, product_of, quotient_of, over_real, plus_real}
+use Rattle.refusal.specs.declared.refusal.Refusal.{Refusal}
 use Rattle.refusal.specs.declared.refusal.Refusal.TheVariants.{Start}
 use Rattle.miller.specs.declared.point.Point.{Point}
 use Rattle.miller.specs.declared.point.Order.{Order}
-use Rattle.miller.specs.declared.search.Start as search
 use Rattle.miller.specs.declared.backward.RealSteps.{RealSteps}
 use Rattle.miller.specs.declared.backward.ComplexSteps.{ComplexSteps}
 use Rattle.miller.specs.declared.seeds.Miller.{Miller}
-use Rattle.miller.specs.declared.seeds.MillerSeeds.{MillerSeeds}
-use Rattle.miller.specs.declared.seeds.MillerSeeds.TheVariants.{Pair, Refused}
 use Rattle.miller.specs.Point.{is_real}
 use Rattle.miller.specs.Search.{start_of}
 use Rattle.miller.specs.Backward.{real_steps, complex_steps, on_real_line}
@@ -71,10 +69,10 @@ seeds_from point order coefficient alone start =
     cond (is_real point.z) (real_seeds point.z.re order coefficient.re alone start)
     (complex_seeds point.z order coefficient alone start)
 
-unfoldable pub seeds_at : Point → Order → Complex → Bool → search.Start → MillerSeeds
-seeds_at point order coefficient alone (search.TheVariants.At start) = Pair (seeds_from point order coefficient alone start)
-seeds_at point order coefficient alone search.TheVariants.Unmet = Refused Start
+unfoldable pub seeds_at : Point → Order → Complex → Bool → Option ℕ → Result Miller Refusal
+seeds_at point order coefficient alone (Some start) = Ok (seeds_from point order coefficient alone start)
+seeds_at point order coefficient alone None = Err Start
 
 -- no start is refusal 6 (ZBKNU: label 310, NZ = -2)
-unfoldable pub seeds_of : Point → Order → Complex → Bool → MillerSeeds
+unfoldable pub seeds_of : Point → Order → Complex → Bool → Result Miller Refusal
 seeds_of point order coefficient alone = seeds_at point order coefficient alone (start_of point order)

@@ -7,4 +7,3 @@ pub mod point;
 pub mod search;
 pub mod seeds;
 mod trials;
-mod whole;

@@ -7,7 +7,6 @@ ghost use Rattle.miller.specs.shapes.Ratio.{ratio_unless, product_unless};
 
 use crate::backward::{ComplexSteps, RealSteps, complex_steps, real_steps};
 use crate::point::{Order, Point, is_real};
-use crate::search::Start;
 use complex::number::Complex;
 use machine::magnitude::magnitude;
 use refusal::refusal::Refusal;
@@ -17,12 +16,6 @@ pub struct Miller {
     pub first: Complex,
     pub second: Complex,
     pub backward: u32,
-}
-
-#[derive(Clone, Copy)]
-pub enum MillerSeeds {
-    Pair(Miller),
-    Refused(Refusal),
 }
 
 // Where one value alone is asked for, the second seed is 0.
@@ -115,12 +108,10 @@ pub fn seeds_at(
     order: Order,
     coefficient: Complex,
     alone: bool,
-    found: Start,
-) -> MillerSeeds
+    found: Option<u32>,
+) -> Result<Miller, Refusal>
     ensures { result ≡ seeds_at point order coefficient alone found }
 {
-    match found {
-        Start::At(start) => MillerSeeds::Pair(seeds_from(point, order, coefficient, alone, start)),
-        Start::Unmet => MillerSeeds::Refused(Refusal::Start),
-    }
+    let start = found.ok_or(Refusal::Start)?;
+    Ok(seeds_from(point, order, coefficient, alone, start))
 }

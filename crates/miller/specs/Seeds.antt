@@ -12,8 +12,7 @@ use Rattle.refusal.specs.declared.refusal.Refusal.{Refusal}
 use Rattle.refusal.specs.declared.refusal.Refusal.TheVariants.{Start}
 use Rattle.miller.specs.declared.point.Point.{Point}
 use Rattle.miller.specs.declared.point.Order.{Order}
-use Rattle.miller.specs.declared.backward.RealSteps.{RealSteps}
-use Rattle.miller.specs.declared.backward.ComplexSteps.{ComplexSteps}
+use Rattle.miller.specs.declared.backward.Steps.{Steps}
 use Rattle.miller.specs.declared.seeds.Miller.{Miller}
 use Rattle.miller.specs.Point.{is_real}
 use Rattle.miller.specs.Search.{start_of}
@@ -21,14 +20,14 @@ use Rattle.miller.specs.Backward.{real_steps, complex_steps, on_real_line}
 
 -- label 200: ((fraction + 1/2 - ratio) / x + 1) first, where ratio is the older of the last two values over the newer; 0 where one value
 -- alone is asked for
-unfoldable pub real_second : Bool → Float → Float → RealSteps → Float → Float
+unfoldable pub real_second : Bool → Float → Float → Steps Float → Float → Float
 real_second alone x fraction s first =
     let length = magnitude_of s.newer in
     let ratio = s.older ⊘ length ⊗ (s.newer ⊘ length) in
     cond alone nothing (((neg ratio ⊕ fraction ⊕ half) ⊘ x ⊕ one) ⊗ first)
 
 -- S1 behind label 190: the newer value over the sum, (P2/CABS(CS)) (CONJG(CS)/CABS(CS)), times the coefficient
-unfoldable pub real_first_seed : RealSteps → Float → Float
+unfoldable pub real_first_seed : Steps Float → Float → Float
 real_first_seed s coefficient = let length = magnitude_of s.sum in s.newer ⊘ length ⊗ (s.sum ⊘ length) ⊗ coefficient
 
 unfoldable pub real_seeds : Float → Order → Float → Bool → ℕ → Miller
@@ -42,17 +41,17 @@ real_seeds x order coefficient alone start =
     }
 
 -- K(ν + 1) / K(ν), label 200: w over v is the product of w / |v| with the conjugate of v over |v|
-unfoldable pub complex_ratio : Complex → Float → ComplexSteps → Complex
+unfoldable pub complex_ratio : Complex → Float → Steps Complex → Complex
 complex_ratio z fraction s =
     let length = modulus_of s.newer in
     let ratio = product_of (over_real s.older length) (over_real (conjugate_of s.newer) length) in
     plus_real (quotient_of (plus_real (plus_real (opposite_of ratio) fraction) half) z) one
 
 -- 0 where one value alone is asked for
-unfoldable pub complex_second : Bool → Complex → Float → ComplexSteps → Complex → Complex
+unfoldable pub complex_second : Bool → Complex → Float → Steps Complex → Complex → Complex
 complex_second alone z fraction s first = cond alone zero_pair (product_of (complex_ratio z fraction s) first)
 
-unfoldable pub complex_first_seed : ComplexSteps → Complex → Complex
+unfoldable pub complex_first_seed : Steps Complex → Complex → Complex
 complex_first_seed s coefficient =
     let length = modulus_of s.sum in
     product_of (over_real s.newer length) (product_of coefficient (over_real (conjugate_of s.sum) length))

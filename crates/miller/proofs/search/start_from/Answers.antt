@@ -11,6 +11,6 @@ returns-then-raw-2 c =
 
 pub returns : goal.returns
 returns c = elim c.else-raw.branch [
-  else-raw-via-then-raw+else-raw-2 w ↦ sym (start-high c.args.raw w.if-raw-2.false)
+  | else-raw-via-then-raw+else-raw-2 w ↦ sym (start-high c.args.raw w.if-raw-2.false)
   | else-raw-via-else-raw w ↦ sym (start-low c.args.raw w.if-raw.false)
-  ]
+]

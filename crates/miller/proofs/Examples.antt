@@ -2,7 +2,7 @@
 use mathlib.Core.Path.{◌≡◌, refl}
 use mathlib.Core.Bool.{false}
 use lib.Ieee.{nan, inf, binary64, of_bits, neg, lt}
-use Rattle.std.specs.Prelude.{Option, Some, None}
+use Rattle.std.specs.Prelude.{Some, None}
 use Rattle.miller.specs.Whole.{truncated}
 use Rattle.miller.specs.Search.{is_start, start_from}
 

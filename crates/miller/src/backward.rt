@@ -121,7 +121,7 @@ pub fn complex_steps(z: Complex, distance: f64, start: u32) -> Steps<Complex>
     ensures { result ≡ complex_steps z distance start }
 {
     let mut s = first(start);
-    while start - s.steps > 1 {
+    for _ in 0..start / 2 {
         let re = real_part(z, distance, s);
         let sum = s.sum;
         let sum_re = sum.re + re;

@@ -2,7 +2,7 @@
 // From src/amos/right_half_plane.rs, determine_miller_starting_k and compute_large_z_miller_seeds (ZBKNU).
 #![tactic(auto)]
 
-pub mod amount;
+mod amount;
 pub mod backward;
 pub mod point;
 pub mod search;

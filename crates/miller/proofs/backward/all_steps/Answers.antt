@@ -3,7 +3,6 @@ use mathlib.Core.Path.{◌≡◌, refl, ap, ◌∙◌}
 use Prim.Native.Nat.{ℕ, ◌+◌}
 use native.Mathlib.Omega.{arith}
 use Rattle.laws.specs.Iterate.{iterate}
-use Rattle.miller.specs.declared.backward.Steps.{Steps}
 use Rattle.miller.specs.shapes.Steps.{step_of, first_of, steps_of}
 use Rattle.miller.proofs.StepFacts.{step-counts, none-counted}
 use Rattle.miller.proofs.BackwardFacts.{at_none, one_more}

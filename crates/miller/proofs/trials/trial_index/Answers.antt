@@ -1,7 +1,7 @@
 -- `miller::trials::trial_index` meets its contract. The invariant: the trials so far are those of the definition, and none has met the test. Assumes nothing.
 use mathlib.Core.Path.{◌≡◌, refl, sym, ap, ◌∙◌}
 use mathlib.Core.Bool.{true, false}
-use Prim.Native.Nat.{◌+◌, ◌-◌, ◌≤◌, ◌<◌}
+use Prim.Native.Nat.{◌-◌, ◌≤◌, ◌<◌}
 use native.Mathlib.Omega.{arith}
 use Rattle.laws.proofs.Run.{first-here, first_next, first-end}
 use Rattle.miller.specs.declared.trials.Trial.{Trial}

@@ -47,20 +47,20 @@ loop-coefficient-preserved c =
 pub returns : goal.returns
 unfolding difference_of with_term difference_coefficients tolerance
 returns c = elim c.loop-coefficient-test.branch [
-  else-loop-coefficient-test w ↦ (
-    let loop = c.loop-coefficient in
-    let e = loop.invariant ∙ left_end done (with_term c.args.square) count 8 (under_way loop.power loop.sum loop.coefficient-index) w.loop-coefficient-test.false in
-    ap neg (w.sum-is ∙ sym (ap (λ (s : Partial). s.sum) e))
-  )
+  | else-loop-coefficient-test w ↦ (
+      let loop = c.loop-coefficient in
+      let e = loop.invariant ∙ left_end done (with_term c.args.square) count 8 (under_way loop.power loop.sum loop.coefficient-index) w.loop-coefficient-test.false in
+      ap neg (w.sum-is ∙ sym (ap (λ (s : Partial). s.sum) e))
+      )
   | then-loop-coefficient-test+then-magnitude w ↦ (
-    let loop = c.loop-coefficient in
-    let square = c.args.square in
-    let i = loop.coefficient-index in
-    let last : last loop.power i ≡ true = ap (λ (m : Float). lt m tolerance) (sym w.magnitude.ensures) ∙ w.if-magnitude.true in
-    let e =
-    loop.invariant
-    ∙ on square loop.power loop.sum i w.loop-coefficient-test.true
-    ∙ left-stop done (with_term square) count 8 (with_term square (under_way loop.power loop.sum i)) (ended square loop.power loop.sum i last) in
-    ap neg (w.sum-is ∙ sym (ap (λ (s : Partial). s.sum) e))
-  )
-  ]
+      let loop = c.loop-coefficient in
+      let square = c.args.square in
+      let i = loop.coefficient-index in
+      let last : last loop.power i ≡ true = ap (λ (m : Float). lt m tolerance) (sym w.magnitude.ensures) ∙ w.if-magnitude.true in
+      let e =
+      loop.invariant
+      ∙ on square loop.power loop.sum i w.loop-coefficient-test.true
+      ∙ left-stop done (with_term square) count 8 (with_term square (under_way loop.power loop.sum i)) (ended square loop.power loop.sum i last) in
+      ap neg (w.sum-is ∙ sym (ap (λ (s : Partial). s.sum) e))
+      )
+]

@@ -6,6 +6,7 @@ use Prim.Native.Nat.{ℕ, ◌+◌}
 use native.Mathlib.Omega.{arith}
 use lib.Dec.{eqb}
 use lib.Ieee.{Float, le}
+use Rattle.std.specs.Prelude.{Result, Ok, Err, is_err}
 use Rattle.machine.specs.Small.{two}
 use Rattle.complex.specs.declared.number.Complex.{Complex}
 use Rattle.complex.specs.Functions.{argument_of}
@@ -20,10 +21,10 @@ use Rattle.recurrence.specs.declared.search.Rule.TheVariants.{OutOfUnderflow}
 use Rattle.recurrence.specs.declared.state.OverflowState.TheVariants.{NearUnder}
 use Rattle.recurrence.specs.declared.state.Climb.{Climb}
 use Rattle.recurrence.proofs.SearchFacts.{search-ends}
-use Rattle.miller.specs.declared.seeds.MillerSeeds as found
+use Rattle.miller.specs.declared.seeds.Miller.{Miller}
 use Rattle.miller.specs.NoStart.{no_start}
 use Rattle.miller.specs.Seeds as miller
-use Rattle.miller.proofs.NoStartFacts.{is_refused, refused-exactly}
+use Rattle.miller.proofs.NoStartFacts.{refused-exactly}
 use Rattle.right_half_plane.specs.declared.ground.Ground.{Ground}
 use Rattle.right_half_plane.specs.declared.seeds.Seeds.{Seeds}
 use Rattle.right_half_plane.specs.declared.seeds.Seeds.TheVariants as seeds
@@ -64,10 +65,10 @@ temme-seeded g scaled = either (is_alone g) _ _ refl refl
     either true s t p q = p
     either false s t p q = q
 
-miller-seeded : (u : Bool) (m : found.MillerSeeds) → unseeded (miller_seeds u m).seeds ≡ is_refused m
+miller-seeded : (u : Bool) (m : Result Miller Refusal) → unseeded (miller_seeds u m).seeds ≡ is_err m
 unfolding miller_seeds
-miller-seeded u (found.TheVariants.Pair m) = refl
-miller-seeded u (found.TheVariants.Refused r) = refl
+miller-seeded u (Ok m) = refl
+miller-seeded u (Err r) = refl
 
 seed-exactly : (g : Ground) (scaled : Bool) → start_refused g ≡ unseeded (seed_of g scaled).seeds
 unfolding start_refused takes_miller seed_of is_near other_seeds half_seeds
@@ -79,7 +80,7 @@ seed-exactly g scaled = go (is_half g.fraction) (le g.modulus two)
     value : Complex
     value = coefficient_of scaled underflow g.z (sqrt_of g.modulus) (argument_of g.z)
 
-    m : found.MillerSeeds
+    m : Result Miller Refusal
     m = miller.seeds_of (point_with g.z g.modulus (sqrt_of g.modulus) (argument_of g.z)) (order_of g.fraction g.square) value (is_alone g)
 
     none : Bool

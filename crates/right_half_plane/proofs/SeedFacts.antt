@@ -4,6 +4,7 @@ use mathlib.Core.Bool.{Bool, true, false, not, ◌&&◌, cond}
 use Prim.Native.Nat.{◌≤◌, zero-le}
 use lib.Dec.{T}
 use lib.Ieee.{le}
+use Rattle.std.specs.Prelude.{Result, Ok, Err}
 use Rattle.machine.specs.Small.{two}
 use Rattle.complex.specs.declared.number.Complex.{Complex}
 use Rattle.complex.specs.Functions.{argument_of, complex_ln_of}
@@ -14,7 +15,8 @@ use Rattle.recurrence.specs.declared.state.OverflowState.TheVariants.{None}
 use Rattle.temme.specs.declared.seeds.Temme.{Temme}
 use Rattle.temme.specs.Seeds.{seeds_of}
 use Rattle.temme.proofs.TemmeBound.{seeds-terms}
-use Rattle.miller.specs.declared.seeds.MillerSeeds as found
+use Rattle.refusal.specs.declared.refusal.Refusal.{Refusal}
+use Rattle.miller.specs.declared.seeds.Miller.{Miller}
 use Rattle.miller.specs.Seeds as miller
 use Rattle.miller.proofs.Outcome.{Settled, seeds-settled}
 use Rattle.right_half_plane.specs.declared.ground.Ground.{Ground}
@@ -48,10 +50,10 @@ temme-seeding g scaled = go (is_alone g) refl
     go true e = record { kind = e; backward = zero-le }
     go false e = record { kind = tt; backward = zero-le }
 
-miller-seeding : (g : Ground) (underflow : Bool) (m : found.MillerSeeds) → Settled m → Seeding g (miller_seeds underflow m)
+miller-seeding : (g : Ground) (underflow : Bool) (m : Result Miller Refusal) → Settled m → Seeding g (miller_seeds underflow m)
 unfolding miller_seeds
-miller-seeding g underflow (found.TheVariants.Pair m) h = record { kind = tt; backward = h }
-miller-seeding g underflow (found.TheVariants.Refused refusal) h = record { kind = h; backward = zero-le }
+miller-seeding g underflow (Ok m) h = record { kind = tt; backward = h }
+miller-seeding g underflow (Err refusal) h = record { kind = h; backward = zero-le }
 
 other-seeding : (g : Ground) (scaled : Bool) → Seeding g (other_seeds g scaled)
 unfolding other_seeds half_seeds
@@ -63,7 +65,7 @@ other-seeding g scaled = go (is_half g.fraction)
     value : Complex
     value = coefficient_of scaled underflow g.z (sqrt_of g.modulus) (argument_of g.z)
 
-    m : found.MillerSeeds
+    m : Result Miller Refusal
     m = miller.seeds_of (point_with g.z g.modulus (sqrt_of g.modulus) (argument_of g.z)) (order_of g.fraction g.square) value (is_alone g)
 
     go : (b : Bool) → Seeding g (cond b (half_seeds underflow value) (miller_seeds underflow m))
@@ -79,10 +81,10 @@ seeding g scaled = go (is_near g)
     go false = other-seeding g scaled
 
 -- ---- Temme's sum, when it is begun, ends by its own test by the term 18
-miller-terms : (u : Bool) (m : found.MillerSeeds) → (miller_seeds u m).terms ≤ 18
+miller-terms : (u : Bool) (m : Result Miller Refusal) → (miller_seeds u m).terms ≤ 18
 unfolding miller_seeds
-miller-terms u (found.TheVariants.Pair m) = zero-le
-miller-terms u (found.TheVariants.Refused refusal) = zero-le
+miller-terms u (Ok m) = zero-le
+miller-terms u (Err refusal) = zero-le
 
 other-terms : (g : Ground) (scaled : Bool) → (other_seeds g scaled).terms ≤ 18
 unfolding other_seeds half_seeds
@@ -94,7 +96,7 @@ other-terms g scaled = go (is_half g.fraction)
     value : Complex
     value = coefficient_of scaled underflow g.z (sqrt_of g.modulus) (argument_of g.z)
 
-    m : found.MillerSeeds
+    m : Result Miller Refusal
     m = miller.seeds_of (point_with g.z g.modulus (sqrt_of g.modulus) (argument_of g.z)) (order_of g.fraction g.square) value (is_alone g)
 
     go : (b : Bool) → (cond b (half_seeds underflow value) (miller_seeds underflow m)).terms ≤ 18

@@ -9,6 +9,7 @@ use Rattle.laws.specs.Operators.{◌⊖◌}
 use Rattle.laws.proofs.Value.{value-sign}
 use Rattle.laws.proofs.Relative.{nonnegative, nonnegative-finite, nonnegative-value}
 use lib.Ieee.Positive.{num, den}
+use Rattle.std.specs.Prelude.{Result, Ok, Err}
 use Rattle.machine.specs.Small.{half, two}
 use Rattle.rounding.specs.Round.{round_of}
 use Rattle.rounding.proofs.Rest.{rest-between}
@@ -17,7 +18,8 @@ use Rattle.complex.specs.Functions.{argument_of, complex_ln_of}
 use Rattle.roots.specs.Sqrt.{sqrt_of}
 use Rattle.temme.specs.Begun.{total_of, MadeOf, EndByTests}
 use Rattle.temme.proofs.BegunEnds.{made_of, begun-end}
-use Rattle.miller.specs.declared.seeds.MillerSeeds as found
+use Rattle.refusal.specs.declared.refusal.Refusal.{Refusal}
+use Rattle.miller.specs.declared.seeds.Miller.{Miller}
 use Rattle.miller.specs.Seeds as miller
 use Rattle.right_half_plane.specs.declared.ground.Ground.{Ground}
 use Rattle.right_half_plane.specs.declared.seeds.Seeded.{Seeded}
@@ -67,10 +69,10 @@ near-ends scaled order z modulus n F p e =
     }
 
 -- ---- any other branch: no term, and no log-gamma
-miller-none : (u : Bool) (m : found.MillerSeeds) → (miller_seeds u m).terms ≡ 0
+miller-none : (u : Bool) (m : Result Miller Refusal) → (miller_seeds u m).terms ≡ 0
 unfolding miller_seeds
-miller-none u (found.TheVariants.Pair m) = refl
-miller-none u (found.TheVariants.Refused refusal) = refl
+miller-none u (Ok m) = refl
+miller-none u (Err refusal) = refl
 
 other_none : (g : Ground) (scaled : Bool) → (other_seeds g scaled).terms ≡ 0
 unfolding other_seeds half_seeds
@@ -82,7 +84,7 @@ other_none g scaled = go (is_half g.fraction)
     value : Complex
     value = coefficient_of scaled underflow g.z (sqrt_of g.modulus) (argument_of g.z)
 
-    m : found.MillerSeeds
+    m : Result Miller Refusal
     m = miller.seeds_of (point_with g.z g.modulus (sqrt_of g.modulus) (argument_of g.z)) (order_of g.fraction g.square) value (is_alone g)
 
     go : (b : Bool) → (cond b (half_seeds underflow value) (miller_seeds underflow m)).terms ≡ 0

@@ -1,7 +1,7 @@
 -- Seeds above |z| = 2 and at a fraction of ±½: a coefficient, which is both seeds at ±½, and Miller's steps at any other fraction. ZBKNU from label 110
 -- to label 210, and label 300 (zbknu.f); `k_right_half_plane` of src/amos/right_half_plane.rs; the steps themselves are crate miller's.
 -- DLMF 10.40.2 has the coefficient. Definitions only.
-use Rattle.std.specs.Prelude.{Bool, not, ◌&&◌, ◌||◌, cond, Float}
+use Rattle.std.specs.Prelude.{Bool, not, ◌&&◌, ◌||◌, cond, Result, Ok, Err, Float}
 use Rattle.std.specs.Float.{binary64}
 use Rattle.std.specs.Float.Ieee.{of_bits, lt, eq}
 use Rattle.laws.specs.Operators.{◌⊖◌}
@@ -15,10 +15,11 @@ use Rattle.complex.specs.Functions.{argument_of, complex_exp_of, at_half_angle}
 use Rattle.machine.specs.Magnitude.{magnitude_of}
 use Rattle.recurrence.specs.declared.state.OverflowState.{OverflowState}
 use Rattle.recurrence.specs.declared.state.OverflowState.TheVariants.{NearUnder, None}
+use Rattle.refusal.specs.declared.refusal.Refusal.{Refusal}
 use Rattle.miller.specs.declared.point.Point.{Point}
 use Rattle.miller.specs.declared.point.Order.{Order}
 use Rattle.miller.specs.Point.{is_real, point_of}
-use Rattle.miller.specs.declared.seeds.MillerSeeds as found
+use Rattle.miller.specs.declared.seeds.Miller.{Miller}
 use Rattle.miller.specs.Seeds as miller
 use Rattle.right_half_plane.specs.declared.ground.Ground.{Ground}
 use Rattle.right_half_plane.specs.declared.seeds.Seeds.TheVariants.{Pair, Refused}
@@ -51,10 +52,10 @@ coefficient_of scaled underflow z root angle =
 unfoldable pub far_state : Bool → OverflowState
 far_state underflow = cond underflow NearUnder None
 
-unfoldable pub miller_seeds : Bool → found.MillerSeeds → Seeded
-miller_seeds underflow (found.TheVariants.Pair m) =
+unfoldable pub miller_seeds : Bool → Result Miller Refusal → Seeded
+miller_seeds underflow (Ok m) =
     record { seeds = Pair m.first m.second; state = far_state underflow; underflow = underflow; terms = 0; backward = m.backward }
-miller_seeds underflow (found.TheVariants.Refused refusal) =
+miller_seeds underflow (Err refusal) =
     record { seeds = Refused refusal; state = far_state underflow; underflow = underflow; terms = 0; backward = 0 }
 
 unfoldable pub half_seeds : Bool → Complex → Seeded

@@ -14,8 +14,9 @@ use machine::constants::Machine;
 use machine::magnitude::magnitude;
 use miller::point::{Order, Point, at, is_real};
 use miller::search::search;
-use miller::seeds::{MillerSeeds, seeds_at};
+use miller::seeds::{Miller, seeds_at};
 use recurrence::state::OverflowState;
+use refusal::refusal::Refusal;
 use roots::sqrt::sqrt;
 
 // the fraction is ±½
@@ -94,11 +95,11 @@ fn far_state(underflow: bool) -> OverflowState
     OverflowState::None
 }
 
-fn miller_seeds(underflow: bool, found: MillerSeeds) -> Seeded
+fn miller_seeds(underflow: bool, found: Result<Miller, Refusal>) -> Seeded
     ensures { result ≡ miller_seeds underflow found }
 {
     match found {
-        MillerSeeds::Pair(m) => {
+        Ok(m) => {
             let first = m.first;
             let second = m.second;
             Seeded {
@@ -109,7 +110,7 @@ fn miller_seeds(underflow: bool, found: MillerSeeds) -> Seeded
                 backward: m.backward,
             }
         }
-        MillerSeeds::Refused(refusal) => Seeded {
+        Err(refusal) => Seeded {
             seeds: Seeds::Refused(refusal),
             state: far_state(underflow),
             underflow,

@@ -2,10 +2,10 @@
 use Rattle.right_half_plane.specs.ByMiller.{miller_seeds}
 use Rattle.right_half_plane.proofs.by_miller.miller_seeds.Goals as goal
 
-pub returns-in-Pair : goal.returns-in-Pair
+pub returns-in-Ok : goal.returns-in-Ok
 unfolding miller_seeds
-returns-in-Pair c = simp (c.far_state.ensures, c.in-Pair.is)
+returns-in-Ok c = simp (c.far_state.ensures, c.in-Ok.is)
 
-pub returns-in-Refused : goal.returns-in-Refused
+pub returns-in-Err : goal.returns-in-Err
 unfolding miller_seeds
-returns-in-Refused c = simp (c.far_state-in-Refused.ensures, c.in-Refused.is)
+returns-in-Err c = simp (c.far_state-in-Err.ensures, c.in-Err.is)

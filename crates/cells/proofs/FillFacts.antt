@@ -1,14 +1,11 @@
--- A list of one value: one cell more, and another value in its first cell. Assumes nothing.
+-- A list of one value with another value in its first cell. Assumes nothing.
 use mathlib.Core.Path.{◌≡◌, ap}
-use mathlib.Core.List.{[], ◌∷◌, ◌++◌}
-use Prim.Native.Nat.{ℕ, zero, suc, ◌+◌, ◌-◌, ◌<◌}
+use mathlib.Core.List.{◌∷◌}
+use Prim.Native.Nat.{ℕ, zero, suc, ◌-◌, ◌<◌}
 use native.Mathlib.Omega.{arith}
-use lib.ListN.{set, replicate, replicate-append-replicate}
+use lib.ListN.{set, replicate}
 
 module _ {A : Type 0} where
-  pub replicate_next : (n : ℕ) (a : A) → replicate n a ++ (a ∷ []) ≡ replicate (n + 1) a
-  replicate_next n a = replicate-append-replicate n 1 a
-
   pub replicate-first : (n m : ℕ) (a b : A) → 0 < n → m ≡ n - 1 → set (replicate n a) 0 b ≡ b ∷ replicate m a
   replicate-first zero m a b h e = absurd (none h)
     where

@@ -7,6 +7,7 @@ ghost use Rattle.circular.specs.Reduce.{quarters_of, reduce_of, halves_of, reduc
 use crate::remainder::remainder;
 use machine::bits::{leading_digits, pattern};
 
+// The two parts are no `Pair` in a field of their own: the definitions and their theorems would read `r.rest.hi` where they read `r.hi`.
 #[derive(Clone, Copy)]
 pub struct Reduced {
     pub hi: f64,

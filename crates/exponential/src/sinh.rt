@@ -29,8 +29,9 @@ pub fn sinh(x: f64) -> f64
     if x != x {
         return not_a_number();
     }
+    let minus = x.is_sign_negative();
     let r = by_magnitude(magnitude(x), sinh_small, half_difference);
-    if x.is_sign_negative() { -r } else { r }
+    if minus { -r } else { r }
 }
 
 // a + a^3 p(a^2), the coefficients fitted to the range.

@@ -5,9 +5,7 @@ use lib.Dec.{T}
 use lib.Ieee.{Float}
 use Rattle.std.specs.Prelude.{Result, Ok, Err}
 use Rattle.refusal.specs.declared.refusal.Refusal.{Refusal}
-use Rattle.call.specs.declared.checks.Verdict.{Verdict}
-use Rattle.call.specs.declared.checks.Verdict.TheVariants.{Admitted, Refused}
-use Rattle.call.specs.Checks.{verdict_of}
+use Rattle.call.specs.Checks.{Verdict, verdict_of}
 use Rattle.call.proofs.FirstFacts.{Given, is_one_of, none-or-listed}
 use Rattle.gamma_ln.specs.GammaLn.{gamma_ln_of}
 use Rattle.gamma_ln.specs.LogGamma.{Outcome, log_gamma_of, all_checks, outcome_of, outcome_by, outcome_at}
@@ -19,8 +17,8 @@ no_other x = none-or-listed (all_checks x) (outcome_at x).number (2 ∷ 10 ∷ 8
 
 by-verdict : (verdict : Verdict) (value : Float) → ((outcome_by verdict value).number ≡ 0 → ⊥) → (outcome_by verdict value).values ≡ []
 unfolding outcome_by
-by-verdict Admitted value h = absurd (h refl)
-by-verdict (Refused r) value h = refl
+by-verdict (Ok admitted) value h = absurd (h refl)
+by-verdict (Err r) value h = refl
 
 pub no_value : (x : Float) → ((outcome_at x).number ≡ 0 → ⊥) → (outcome_at x).values ≡ []
 unfolding outcome_at

@@ -20,9 +20,7 @@ use Rattle.refusal.specs.Number.{number_of}
 use Rattle.refusal.specs.declared.refusal.Refusal.{Refusal}
 use Rattle.refusal.specs.declared.refusal.Refusal.TheVariants.{NotFinite, NotPositive, Overflow}
 use Rattle.refusal.proofs.Distinct.{distinct, never-zero}
-use Rattle.call.specs.declared.checks.Verdict.{Verdict}
-use Rattle.call.specs.declared.checks.Verdict.TheVariants as verdicts
-use Rattle.call.specs.Checks.{refused_if, verdict_from, verdict_of}
+use Rattle.call.specs.Checks.{Verdict, Admitted, Refused, refused_if, verdict_from, verdict_of}
 use Rattle.call.specs.Checks as calls
 use Rattle.call.proofs.FirstFacts.{verdict-append, Given, given}
 use Rattle.gamma_ln_tables.specs.Tables.{whole_values}
@@ -31,21 +29,21 @@ use Rattle.gamma_ln.specs.LogGamma.{argument_checks, valued_of, log_gamma_by, lo
 use Rattle.gamma_ln.proofs.Arguments.{above_zero}
 
 -- ---- the steps come to the defined outcome
-by_value : (b : Bool) (v : Float) → outcome_of (cond b (Ok v) (Err Overflow)) ≡ outcome_by (cond (not b) (verdicts.Refused Overflow) verdicts.Admitted) v
+by_value : (b : Bool) (v : Float) → outcome_of (cond b (Ok v) (Err Overflow)) ≡ outcome_by (cond (not b) (Refused Overflow) Admitted) v
 unfolding outcome_by
 by_value true v = refl
 by_value false v = refl
 
 by-verdict : (verdict : Verdict) (v : Float) → outcome_of (log_gamma_by verdict v) ≡ outcome_by (refused_if verdict (not (finite v)) Overflow) v
 unfolding refused_if log_gamma_by valued_of outcome_by
-by-verdict verdicts.Admitted v = by_value (finite v) v
-by-verdict (verdicts.Refused r) v = refl
+by-verdict (Ok admitted) v = by_value (finite v) v
+by-verdict (Err r) v = refl
 
 pub steps-outcome : (x : Float) → outcome_of (log_gamma_of x) ≡ outcome_at x
 unfolding log_gamma_of outcome_at all_checks verdict_of verdict_from
 steps-outcome x =
     let v = (gamma_ln_of x).value in
-    by-verdict (verdict_of (argument_checks x)) v ∙ ap (λ (w : Verdict). outcome_by w v) (sym (verdict-append verdicts.Admitted (argument_checks x) _))
+    by-verdict (verdict_of (argument_checks x)) v ∙ ap (λ (w : Verdict). outcome_by w v) (sym (verdict-append Admitted (argument_checks x) _))
 
 -- ---- one case for one outcome
 value_of : Outcome → Float
@@ -74,8 +72,8 @@ only-outcome x a b p q = one-case a b (p ∙ sym q)
 -- ---- the number, exactly when, and no other than the list's: 2, 10 and 8
 number_by : (verdict : Verdict) (v : Float) → calls.number_given verdict ≡ (outcome_by verdict v).number
 unfolding outcome_by calls.number_given
-number_by verdicts.Admitted v = refl
-number_by (verdicts.Refused r) v = refl
+number_by (Ok admitted) v = refl
+number_by (Err r) v = refl
 
 pub numbers : (x : Float) → Given (all_checks x) (outcome_at x).number
 unfolding outcome_at
@@ -103,7 +101,7 @@ positive-not-le (fin false m e) p =
 abbrev picked : Bool → Bool → Bool → Float → Result Float Refusal
 picked f z g v = cond f (cond z (Err NotPositive) (cond g (Ok v) (Err Overflow))) (Err NotFinite)
 
-picks_by : (f z : Bool) (v : Float) → log_gamma_by (refused_if (refused_if verdicts.Admitted (not f) NotFinite) z NotPositive) v ≡ picked f z (finite v) v
+picks_by : (f z : Bool) (v : Float) → log_gamma_by (refused_if (refused_if Admitted (not f) NotFinite) z NotPositive) v ≡ picked f z (finite v) v
 unfolding refused_if log_gamma_by valued_of
 picks_by true true v = refl
 picks_by true false v = refl

@@ -7,9 +7,7 @@ use Rattle.machine.specs.Small.{nothing}
 use Rattle.refusal.specs.Number.{number_of}
 use Rattle.refusal.specs.declared.refusal.Refusal.{Refusal}
 use Rattle.refusal.specs.declared.refusal.Refusal.TheVariants.{NotFinite, NotPositive, Overflow}
-use Rattle.call.specs.declared.checks.Verdict.{Verdict}
-use Rattle.call.specs.declared.checks.Verdict.TheVariants as verdicts
-use Rattle.call.specs.Checks.{Check, check, verdict_of}
+use Rattle.call.specs.Checks.{Check, check, Verdict, verdict_of}
 use Rattle.gamma_ln.specs.GammaLn.{gamma_ln_of}
 
 -- not finite: 2; 0 or less: 10
@@ -24,8 +22,8 @@ unfoldable pub valued_of : Float → Result Float Refusal
 valued_of value = cond (finite value) (Ok value) (Err Overflow)
 
 unfoldable pub log_gamma_by : Verdict → Float → Result Float Refusal
-log_gamma_by verdicts.Admitted value = valued_of value
-log_gamma_by (verdicts.Refused refusal) value = Err refusal
+log_gamma_by (Ok admitted) value = valued_of value
+log_gamma_by (Err refusal) value = Err refusal
 
 -- the case of the result, as the steps come to it
 unfoldable pub log_gamma_of : Float → Result Float Refusal
@@ -55,8 +53,8 @@ outcome_of (Err r) = refused r
 
 -- the outcome of x: the first check that applies refuses; where none does, the value
 unfoldable pub outcome_by : Verdict → Float → Outcome
-outcome_by verdicts.Admitted value = answered value
-outcome_by (verdicts.Refused refusal) value = refused refusal
+outcome_by (Ok admitted) value = answered value
+outcome_by (Err refusal) value = refused refusal
 
 unfoldable pub outcome_at : Float → Outcome
 outcome_at x = outcome_by (verdict_of (all_checks x)) (gamma_ln_of x).value

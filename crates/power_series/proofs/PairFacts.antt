@@ -26,7 +26,7 @@ use Rattle.series_step.specs.Mark.{mark_of, marked_of}
 use Rattle.series_step.specs.Seed.{coefficient_if, coefficient_of, is_gone, kept_of, gone_if, summed_of, seed_if, seed_of}
 use Rattle.series_step.specs.Recurred.{backward_of, recurred_if, recurred_of}
 use Rattle.series_step.specs.Step.{step_if, step_of}
-use Rattle.power_series.specs.declared.pair.Pair.{Pair}
+use Rattle.series_sum.specs.declared.sums.Two.{Two}
 use Rattle.power_series.specs.Visit.{walk_of}
 use Rattle.power_series.specs.shapes.Pair.{entered_of, pair_of, Settled, Begun}
 use Rattle.power_series.proofs.WalkFacts.{Walking, walking_start, walking-put}
@@ -135,7 +135,7 @@ module _ (g : Setting) (n : ℕ) where
       }
 
 -- ---- the cells of the pair
-module _ (g : Setting) (n : ℕ) (p : Pair) (b : Begun g n p) (d : List Float) where
+module _ (g : Setting) (n : ℕ) (p : Two Descent) (b : Begun g n p) (d : List Float) where
   two-less : (n : ℕ) → n - 2 ≡ n - 1 - 1
   two-less n = omega arith
 

@@ -16,14 +16,7 @@ use series_step::recurred::{backward, unmarked};
 use series_step::seed::kept;
 use series_step::setting::Setting;
 use series_sum::sum::Sum;
-use series_sum::sums::two_sums;
-
-// The states after the highest order and after the next.
-#[derive(Clone, Copy)]
-pub struct Pair {
-    pub higher: Descent,
-    pub lower: Descent,
-}
+use series_sum::sums::{Two, two_sums};
 
 fn entered(lead: Complex, whole: Complex, sum: Sum, s: Descent) -> Descent
     requires { s.seeded < 2 }
@@ -32,8 +25,8 @@ fn entered(lead: Complex, whole: Complex, sum: Sum, s: Descent) -> Descent
     kept(sum.value * whole, marked(lead.re, sum.terms, s))
 }
 
-// The exponentials come first: the sums, whose ends cannot be foreseen, then run beside them.
-fn seeds(g: Setting, n: u32, first: Complex, second: Complex) -> Pair
+// The states after the highest order and after the next. The exponentials come first: the sums, whose ends cannot be foreseen, then run beside them.
+fn seeds(g: Setting, n: u32, first: Complex, second: Complex) -> Two<Descent>
     requires { 1 < n }
     ensures { result ≡ pair_of g n first second }
 {
@@ -47,7 +40,7 @@ fn seeds(g: Setting, n: u32, first: Complex, second: Complex) -> Pair
     );
     let higher = entered(first, whole, sums.higher, start());
     let lower = entered(second, other, sums.lower, higher);
-    Pair { higher, lower }
+    Two { higher, lower }
 }
 
 fn rung(g: Setting, k: u32, s: Descent) -> Descent
@@ -62,7 +55,8 @@ fn rung(g: Setting, k: u32, s: Descent) -> Descent
     unmarked(backward(g, k, s.y_k_plus_2, s.y_k_plus_1), counts, s)
 }
 
-// Two orders at a time, so that a value stays in the registers in which it was worked out.
+// Two orders at a time, so that a value stays in the registers in which it was worked out. How many orders are left is the index of both
+// entries: `for pair in (0..most / 2).rev()` would work out `pair * 2 + 1` and `pair * 2` from another one.
 fn two_by_two(g: Setting, most: usize, settled: Descent, out: &mut [f64]) -> Standing
     requires { (length out.old % 2 ≡ 0)
         × (length out.old ≤ 1024)
@@ -101,7 +95,7 @@ fn evened(g: Setting, left: usize, s: Descent, out: &mut [f64]) -> Standing
     Standing { left: k, state }
 }
 
-fn paired(g: Setting, p: Pair, out: &mut [f64]) -> Standing
+fn paired(g: Setting, p: Two<Descent>, out: &mut [f64]) -> Standing
     requires { (length out.old % 2 ≡ 0)
         × (length out.old ≤ 1024)
         × (1 < length out.old / 2)

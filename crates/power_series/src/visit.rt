@@ -13,7 +13,8 @@ use series_step::setting::Setting;
 use series_step::step::step;
 
 // How many orders were set to zero, whether and where the visit stopped, the terms of its longest sum, and its steps of recurrence.
-// Finished are the entries from the place up; it is 0 where the visit did not stop.
+// Finished are the entries from the place up; it is 0 where the visit did not stop. visited_of of specs/Visit.antt has the two apart, and
+// callers read the place in either case: an Option<usize> would be read as `visit.stopped_at.unwrap_or(0)`.
 #[derive(Clone, Copy)]
 pub struct Visit {
     pub zeros: u32,
@@ -39,6 +40,7 @@ pub fn put(out: &mut [f64], k: usize, entry: Complex)
     out[k * 2] = entry.re;
 }
 
+// How many orders are left is part of the answer: `for left in (0..n).rev()` would return `left + 1` where the visit stops, and 0 at its end.
 fn descend(g: Setting, out: &mut [f64]) -> Standing
     requires { (length out.old % 2 ≡ 0) × (length out.old ≤ 1024) }
     ensures { (result ≡ (walk_of g (length out.old / 2)).standing)

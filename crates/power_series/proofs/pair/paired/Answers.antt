@@ -6,7 +6,8 @@ use native.Mathlib.Omega.{arith}
 use lib.Ieee.{Float}
 use lib.ListN.{length, drop, set}
 use Rattle.series_step.specs.declared.setting.Setting.{Setting}
-use Rattle.power_series.specs.declared.pair.Pair.{Pair}
+use Rattle.series_sum.specs.declared.sums.Two.{Two}
+use Rattle.series_step.specs.declared.descent.Descent.{Descent}
 use Rattle.power_series.specs.Visit.{Walk, walk_of}
 use Rattle.power_series.specs.shapes.Pair.{Settled, Begun, walk_from}
 use Rattle.power_series.proofs.WalkFacts.{Walking, walking-whole}
@@ -14,7 +15,7 @@ use Rattle.power_series.proofs.PairFacts.{paired-settled, paired-walk}
 use Rattle.power_series.proofs.pair.paired.Goals as goal
 
 walked :
-    (g : Setting) (p : Pair) (d : List Float) (b : Begun g (length d / 2) p) → length d % 2 ≡ 0 → 1 < length d / 2 → let n = length d / 2 in
+    (g : Setting) (p : Two Descent) (d : List Float) (b : Begun g (length d / 2) p) → length d % 2 ≡ 0 → 1 < length d / 2 → let n = length d / 2 in
     (first : List Float) → first ≡ set (set d ((n - 1) * 2 + 1) p.higher.above.im) ((n - 1) * 2) p.higher.above.re →
     (second : List Float) → second ≡ set (set first ((n - 1 - 1) * 2 + 1) p.lower.above.im) ((n - 1 - 1) * 2) p.lower.above.re →
     Walking g (walk_of g n) d n (n - 1 - 1) p.lower second

@@ -1,5 +1,5 @@
-// What Miller's backward steps and the ratio of the seeds are taken with: real numbers on the real path, complex ones off it. Promised: each operation is that of its
-// kind, real_operations and complex_operations of specs/shapes/Operations.antt.
+// What Miller's backward steps and the ratio of the seeds are taken with: real numbers on the real path, complex ones off it. Promised:
+// each operation is that of its kind, real_operations and complex_operations of specs/shapes/Operations.antt.
 ghost use Rattle.std.specs.Prelude.{◌≡◌};
 ghost use Rattle.miller.specs.shapes.Operations.{Operations, real_operations, complex_operations};
 

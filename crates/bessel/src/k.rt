@@ -12,8 +12,7 @@ ghost use Rattle.bessel.specs.K.{Fewer, kernel_steps, k_steps, k_outcome};
 use crate::arguments::{Arguments, prepare};
 use crate::checks::k_verdict;
 use crate::outcome::{judge, refuse};
-use call::answer::{Answer, answered, signed};
-use call::checks::Verdict;
+use call::answer::{Answer, Counts, signed};
 use right_half_plane::kernel::{Ending, k_right_half_plane};
 
 // Every entry of an answer is finished; a refusal has left the cells as they were, and they are filled here.
@@ -24,7 +23,12 @@ fn concluded(ending: Ending, out: &mut [f64]) -> Answer
 {
     match ending {
         Ending::Answered(c) => judge(
-            answered(signed(false, c.zeros), c.longest_sum, c.rungs, c.backward),
+            Ok(Counts {
+                zeros: signed(false, c.zeros),
+                longest_sum: c.longest_sum,
+                rungs: c.rungs,
+                backward: c.backward,
+            }),
             0,
             out,
         ),
@@ -52,7 +56,7 @@ pub fn k(scaled: bool, v: f64, re: f64, im: f64, out: &mut [f64]) -> Answer
     let a = prepare(v, re, im);
     let verdict = k_verdict(a, out.len());
     match verdict {
-        Verdict::Admitted => by_kernel(scaled, a, out),
-        Verdict::Refused(refusal) => refuse(refusal, out),
+        Ok(()) => by_kernel(scaled, a, out),
+        Err(refusal) => refuse(refusal, out),
     }
 }

@@ -12,9 +12,9 @@ use lib.Ieee.{Float, binary64, fits, of_bits, to_bits}
 use lib.Ieee.Bits.{of_bits-to_bits, to_bits-lt}
 use lib.ListN.{length, take, drop, get_or, length-append, length-drop, length-map, get_or-map}
 use lib.Seq.{take_all, take-length, take-suc, take-add, drop-drop, split_at, length-take-le}
-use Rattle.call.specs.declared.answer.Answer.{Answer}
+use Rattle.call.specs.Answer.{Answer, number_in}
 use Rattle.frame.specs.declared.reading.Record.{Record}
-use Rattle.frame.specs.declared.reading.Reading.TheVariants.{Readable}
+use Rattle.std.proofs.Common.{Some}
 use Rattle.frame.specs.Layout.{byte_width, count_width, float_width, pair_width, number_at, zeros_at, longest_sum_at, rungs_at, backward_at, record_length}
 use Rattle.frame.specs.Digits.{are_digits, spelled_of, field_of}
 use Rattle.frame.specs.Writing.{twos_complement, spelled_record, record_of, spelled_patterns, line_of}
@@ -113,7 +113,7 @@ module _ (r : Record) (bits : List ℕ) where
   bits-long : length bits ≡ r.pairs * 2 → length (spelled_patterns bits) ≡ r.pairs * pair_width
   bits-long e = omega (arith, patterns-length bits)
 
-  pub record-read : RecordFits r → length bits ≡ r.pairs * 2 → reading_of (line_again r bits) ≡ Readable r
+  pub record-read : RecordFits r → length bits ≡ r.pairs * 2 → reading_of (line_again r bits) ≡ Some r
   unfolding line_again
   record-read h e =
       let tail = spelled_patterns bits in
@@ -122,7 +122,7 @@ module _ (r : Record) (bits : List ℕ) where
       let rest = rest-follows r h (length (line r tail) - record_length) (omega (arith, whole, long)) in
       readable (line r tail) (omega (arith, whole)) (digits_append (front r tail) tail (front-digits r tail) (patterns-digits bits))
       (ap (λ (m : ℕ). rest_inside m (length (line r tail) - record_length)) (number-at r tail h) ∙ rest)
-      ∙ ap Readable (record-at r tail h long)
+      ∙ ap Some (record-at r tail h long)
 
   pub bits-again : (i d : ℕ) → i < length bits → get_or bits i d < 2 ^ 64 → cell_bits_of i (line_again r bits) ≡ get_or bits i d
   unfolding cell_bits_of line_again
@@ -152,23 +152,23 @@ module _ (r : Record) (bits : List ℕ) where
 
 -- ---- the same of an answer and its cells
 module _ (a : Answer) (cells : List Float) where
-  line-said : (n : ℕ) → a.number ≡ 0 → line_of a cells ≡ line_again (said_of a n) (map (to_bits binary64) cells)
+  line-said : (n : ℕ) → number_in a ≡ 0 → line_of a cells ≡ line_again (said_of a n) (map (to_bits binary64) cells)
   unfolding line_again said_of record_of
   line-said n e = line-answered a cells e ∙ ap (λ (l : List ℕ). record_of a ++ l) (patterns-cells cells)
 
-  refusal-said : (a.number ≡ 0 → ⊥) → line_of a cells ≡ line_again (said_of a 0) []
+  refusal-said : (number_in a ≡ 0 → ⊥) → line_of a cells ≡ line_again (said_of a 0) []
   unfolding line_again said_of record_of spelled_patterns
   refusal-said h = line_refused a cells h ∙ sym (append-nil (record_of a))
 
-  pub answered-read : (n : ℕ) → RecordFits (said_of a n) → a.number ≡ 0 → length cells ≡ n * 2 → reading_of (line_of a cells) ≡ Readable (said_of a n)
+  pub answered-read : (n : ℕ) → RecordFits (said_of a n) → number_in a ≡ 0 → length cells ≡ n * 2 → reading_of (line_of a cells) ≡ Some (said_of a n)
   unfolding said_of
   answered-read n h e l = ap reading_of (line-said n e) ∙ record-read (said_of a n) (map (to_bits binary64) cells) h (length-map cells (to_bits binary64) ∙ l)
 
-  pub refused-read : RecordFits (said_of a 0) → (a.number ≡ 0 → ⊥) → reading_of (line_of a cells) ≡ Readable (said_of a 0)
+  pub refused-read : RecordFits (said_of a 0) → (number_in a ≡ 0 → ⊥) → reading_of (line_of a cells) ≡ Some (said_of a 0)
   unfolding said_of
   refused-read h e = ap reading_of (refusal-said e) ∙ record-read (said_of a 0) [] h refl
 
-  pub cell-read : (i : ℕ) (z : Float) → a.number ≡ 0 → i < length cells → T (fits binary64 (get_or cells i z)) → cell_bits_of i (line_of a cells) ≡ to_bits binary64 (get_or cells i z)
+  pub cell-read : (i : ℕ) (z : Float) → number_in a ≡ 0 → i < length cells → T (fits binary64 (get_or cells i z)) → cell_bits_of i (line_of a cells) ≡ to_bits binary64 (get_or cells i z)
   cell-read i z e h t =
       let bits = map (to_bits binary64) cells in
       let same : get_or bits i (to_bits binary64 z) ≡ to_bits binary64 (get_or cells i z) = get_or-map (to_bits binary64) cells i z in
@@ -177,10 +177,10 @@ module _ (a : Answer) (cells : List Float) where
       (subst (λ (n : ℕ). n < 2 ^ 64) (sym same) (to_bits-lt binary64 (get_or cells i z) t))
       ∙ same
 
-  pub value_read : (i : ℕ) (z : Float) → a.number ≡ 0 → i < length cells → T (fits binary64 (get_or cells i z)) → of_bits binary64 (cell_bits_of i (line_of a cells)) ≡ get_or cells i z
+  pub value_read : (i : ℕ) (z : Float) → number_in a ≡ 0 → i < length cells → T (fits binary64 (get_or cells i z)) → of_bits binary64 (cell_bits_of i (line_of a cells)) ≡ get_or cells i z
   value_read i z e h t = ap (of_bits binary64) (cell-read i z e h t) ∙ of_bits-to_bits binary64 (get_or cells i z) t
 
-  pub cells-read : (z : Float) → a.number ≡ 0 → ((i : ℕ) → i < length cells → T (fits binary64 (get_or cells i z))) → cells_read (length cells) (line_of a cells) ≡ cells
+  pub cells-read : (z : Float) → number_in a ≡ 0 → ((i : ℕ) → i < length cells → T (fits binary64 (get_or cells i z))) → cells_read (length cells) (line_of a cells) ≡ cells
   unfolding cells_read
   cells-read z e h = first (length cells) (le_refl (length cells)) ∙ take-length cells
     where
@@ -220,12 +220,12 @@ record-again line bits e h t =
     let k1 = field_next number_at byte_width line _ (omega arith) e k2 in
     simp (append_assoc, zeros) k1
 
-pub line-again : (line : List ℕ) (r : Record) → reading_of line ≡ Readable r → line_again r (bits_read (r.pairs * 2) line) ≡ line
+pub line-again : (line : List ℕ) (r : Record) → reading_of line ≡ Some r → line_again r (bits_read (r.pairs * 2) line) ≡ line
 line-again line r e =
     let t = taken line r e in
     let n = r.pairs * 2 in
     let bits = bits-written n line t.digits (omega (arith, t.long)) ∙ take_all (n * float_width) (drop record_length line) (omega (arith, length-drop record_length line, t.long)) in
     ap (λ (x : Record). line_again x (bits_read n line)) t.is ∙ record-again line (bits_read n line) t.digits (omega (arith, t.long)) bits
 
-pub line-fits : (line : List ℕ) (r : Record) → reading_of line ≡ Readable r → RecordFits r
+pub line-fits : (line : List ℕ) (r : Record) → reading_of line ≡ Some r → RecordFits r
 line-fits line r e = (taken line r e).fits

@@ -8,25 +8,24 @@ use borrow.Author.Tests.{ne_eqb, eqb-true, leb-true, leb-false}
 use lib.Dec.{leb, eqb}
 use lib.ListN.{length, take, length-take}
 use lib.Seq.{take_all}
-use Rattle.frame.specs.declared.asking.Framed.TheVariants.{Frame, NoFrame}
+use Rattle.std.proofs.Common.{None, Some}
 use Rattle.frame.specs.declared.asking.Fields.{Fields}
-use Rattle.frame.specs.declared.asking.Parsed.TheVariants.{Malformed}
 use Rattle.frame.specs.Layout.{asking_length}
 use Rattle.frame.specs.Digits.{are_digits}
 use Rattle.frame.specs.Asking.{fields_of, framed_of, asked_in, parsed_of}
 use Rattle.frame.proofs.DigitFacts.{both}
 
-pub other_length : (line : List ℕ) → (length line ≡ asking_length → ⊥) → parsed_of line ≡ Malformed
+pub other_length : (line : List ℕ) → (length line ≡ asking_length → ⊥) → parsed_of line ≡ None
 unfolding parsed_of framed_of asked_in
 other_length line h = simp (ne_eqb (length line) asking_length h)
 
 -- a line that reads as a frame
-pub framed_is : (line : List ℕ) (f : Fields) → framed_of line ≡ Frame f → (length line ≡ asking_length) × (are_digits line ≡ true) × (f ≡ fields_of line)
+pub framed_is : (line : List ℕ) (f : Fields) → framed_of line ≡ Some f → (length line ≡ asking_length) × (are_digits line ≡ true) × (f ≡ fields_of line)
 unfolding framed_of
 framed_is line f e = go (eqb (length line) asking_length && are_digits line) refl e
   where
     go :
-        (b : Bool) → (eqb (length line) asking_length && are_digits line) ≡ b → cond b (Frame (fields_of line)) NoFrame ≡ Frame f →
+        (b : Bool) → (eqb (length line) asking_length && are_digits line) ≡ b → cond b (Some (fields_of line)) None ≡ Some f →
         (length line ≡ asking_length) × (are_digits line ≡ true) × (f ≡ fields_of line)
     go true k q = let t = both (eqb (length line) asking_length) (are_digits line) k in (eqb-true (length line) asking_length t.0, t.1, cc)
     go false k q = absurd (let z : ◌≡◌ {A = ℕ} 0 1 = cc in omega arith)

@@ -9,7 +9,7 @@ use borrow.Author.Tests.{eq-eqb}
 use lib.ListN.{length, drop, length-append, length-drop}
 use lib.Seq.{take_all}
 use Rattle.frame.specs.declared.asking.Fields.{Fields}
-use Rattle.frame.specs.declared.asking.Framed.TheVariants.{Frame}
+use Rattle.std.proofs.Common.{Some}
 use Rattle.frame.specs.Layout.{byte_width, count_width, float_width, kind_at, scaling_at, count_at, order_at, re_at, im_at, asking_length}
 use Rattle.frame.specs.Digits.{are_digits, spelled_of, field_of}
 use Rattle.frame.specs.Asking.{fields_of, framed_of, asking_line_of, FieldsFit}
@@ -64,9 +64,9 @@ module _ (f : Fields) where
       field_at line ((((p1 ++ p2) ++ p3) ++ p4) ++ p5) [] im_at float_width f.im (simp (append_assoc, append-nil)) (simp (length-append, spelled-length)) h.im in
       simp (k1, k2, k3, k4, k5, k6)
 
-  pub asking-read : FieldsFit f → framed_of (asking_line_of f) ≡ Frame f
+  pub asking-read : FieldsFit f → framed_of (asking_line_of f) ≡ Some f
   unfolding framed_of
-  asking-read h = simp (eq-eqb (length (asking_line_of f)) asking_length (asking-length f), asking-digits) (ap Frame (fields_read h))
+  asking-read h = simp (eq-eqb (length (asking_line_of f)) asking_length (asking-length f), asking-digits) (ap Some (fields_read h))
 
 -- ---- what was read is written
 module _ (line : List ℕ) (l : length line ≡ asking_length) (e : are_digits line ≡ true) where
@@ -92,8 +92,8 @@ module _ (line : List ℕ) (l : length line ≡ asking_length) (e : are_digits l
       field_next kind_at byte_width line _ (omega arith) e k2
 
 -- ---- in the reader's words
-pub asking-fits : (line : List ℕ) (f : Fields) → framed_of line ≡ Frame f → FieldsFit f
+pub asking-fits : (line : List ℕ) (f : Fields) → framed_of line ≡ Some f → FieldsFit f
 asking-fits line f e = let k = framed_is line f e in subst FieldsFit (sym k.2) (fields_fit line k.0 k.1)
 
-pub asking-again : (line : List ℕ) (f : Fields) → framed_of line ≡ Frame f → asking_line_of f ≡ line
+pub asking-again : (line : List ℕ) (f : Fields) → framed_of line ≡ Some f → asking_line_of f ≡ line
 asking-again line f e = let k = framed_is line f e in ap asking_line_of k.2 ∙ fields-written line k.0 k.1

@@ -2,14 +2,13 @@
 -- digits read and written again are the same digits. Assumes nothing.
 use mathlib.Core.Path.{◌≡◌, refl, sym, ap, ◌∙◌, subst}
 use mathlib.Core.Logic.{⊎_elim}
-use mathlib.Core.Bool.{Bool, true, false, not, cond, ◌&&◌, ◌||◌, beq}
+use mathlib.Core.Bool.{Bool, true, false, not, ◌&&◌, ◌||◌}
 use mathlib.Core.List.{List, [], ◌∷◌, ◌++◌}
 use Prim.Native.Nat.{ℕ, zero, suc, ◌+◌, ◌*◌, ◌/◌, ◌%◌, ◌^◌, ◌≤◌, ◌<◌}
 use native.Mathlib.Nat.{lt_of_lt_of_le, le_of_suc-le-suc, not-suc-le-zero, mul_assoc}
 use native.Mathlib.Numerals.{add-one}
 use native.Mathlib.Omega.{arith}
 use lib.ListN.{length, take, drop, get_or, drop_of_length-le}
-use borrow.Author.Tests.{eqb-true, eqb-false, eq-eqb, ne_eqb}
 use lib.Dec.{T, eqb, ltb, leb, eqb→eq, ltb→lt, leb→le}
 use lib.Ieee.Fits.{and_l, and_r}
 use lib.Pow.{pow-add, pow_mono, mod-pow-add}
@@ -21,29 +20,12 @@ use Rattle.frame.specs.Digits.{worth_of, is_digit, are_digits, number_from, digi
 
 -- ---- one byte: computed at every byte
 module _ where
-  -- as the code tests it
-  abbrev pub tested : ℕ → Bool
-  tested c = cond (ltb c 58) (leb 48 c) (cond (ltb c 71) (leb 65 c) false)
-
-  same : ℕ → Bool
-  same c = beq (is_digit c) (tested c)
-
   right : ℕ → Bool
   right c = not (is_digit c) || (eqb (c % 16 + c / 64 * 9) (worth_of c) && ltb (worth_of c) 16)
-
-  beq-eq : (a b : Bool) → T (beq a b) → a ≡ b
-  beq-eq true true t = refl
-  beq-eq true false t = absurd t
-  beq-eq false true t = absurd t
-  beq-eq false false t = refl
 
   all_right : (c : ℕ) → c < 256 → T (right c)
   unfolding right is_digit worth_of
   all_right c h = every-at right 256 tt c h
-
-  pub is-tested : (c : ℕ) → c < 256 → is_digit c ≡ tested c
-  unfolding same is_digit
-  is-tested c h = beq-eq (is_digit c) (tested c) (every-at same 256 tt c h)
 
   pub digit-worth : (c : ℕ) → c < 256 → is_digit c ≡ true → (c % 16 + c / 64 * 9 ≡ worth_of c) × (worth_of c < 16)
   unfolding right
@@ -53,45 +35,17 @@ module _ where
       let q = ltb (worth_of c) 16 in
       (eqb→eq (c % 16 + c / 64 * 9) (worth_of c) (and_l p q t), ltb→lt (worth_of c) 16 (and_r p q t))
 
+-- ---- one byte more
 module _ (l : List ℕ) (i : ℕ) where
-  here : i < length l → are_digits (drop i l) ≡ (is_digit (get_or l i 0) && are_digits (drop (i + 1) l))
+  pub digits-next : (all : Bool) → i < length l → (all && are_digits (drop i l)) ≡ ((all && is_digit (get_or l i 0)) && are_digits (drop (i + 1) l))
   unfolding are_digits
-  here h = rw (add-one, drop-cons l i 0)
-
-  pub digits-kept : (all : Bool) → i < length l → is_digit (get_or l i 0) ≡ true → (all && are_digits (drop i l)) ≡ (all && are_digits (drop (i + 1) l))
-  digits-kept all h e = ap (λ (b : Bool). all && b) (here h ∙ ap (λ (b : Bool). b && are_digits (drop (i + 1) l)) e)
-
-  pub digits-lost : (all : Bool) → i < length l → is_digit (get_or l i 0) ≡ false → (all && are_digits (drop i l)) ≡ (false && are_digits (drop (i + 1) l))
-  digits-lost all h e = ap (λ (b : Bool). all && b) (here h ∙ ap (λ (b : Bool). b && are_digits (drop (i + 1) l)) e) ∙ never all
-    where
-      never : (b : Bool) → (b && false) ≡ false
-      never true = refl
-      never false = refl
+  digits-next true h = rw (add-one, drop-cons l i 0)
+  digits-next false h = refl
 
   pub digits-end : (all : Bool) → length l ≤ i → (all && are_digits (drop i l)) ≡ all
   unfolding are_digits
-  digits-end all h = ap (λ (x : List ℕ). all && are_digits x) (drop_of_length-le l h) ∙ always all
-    where
-      always : (b : Bool) → (b && true) ≡ b
-      always true = refl
-      always false = refl
-
-  -- so many of the bytes passed are digits
-  pub counted-kept : (good : ℕ) → i < length l → is_digit (get_or l i 0) ≡ true → (eqb good i && are_digits (drop i l)) ≡ (eqb (good + 1) (i + 1) && are_digits (drop (i + 1) l))
-  counted-kept good h e = digits-kept (eqb good i) h e ∙ ap (λ (b : Bool). b && are_digits (drop (i + 1) l)) (go (eqb good i) refl)
-    where
-      back : (a b : ℕ) → a + 1 ≡ b + 1 → a ≡ b
-      back a b q = omega arith
-
-      go : (t : Bool) → eqb good i ≡ t → eqb good i ≡ eqb (good + 1) (i + 1)
-      go true q = q ∙ sym (eq-eqb (good + 1) (i + 1) (ap (λ (k : ℕ). k + 1) (eqb-true good i q)))
-      go false q = q ∙ sym (ne_eqb (good + 1) (i + 1) (λ r. eqb-false good i q (back good i r)))
-
-  pub counted-lost : (good : ℕ) → good ≤ i → i < length l → is_digit (get_or l i 0) ≡ false → (eqb good i && are_digits (drop i l)) ≡ (eqb good (i + 1) && are_digits (drop (i + 1) l))
-  counted-lost good g h e = digits-lost (eqb good i) h e ∙ ap (λ (b : Bool). b && are_digits (drop (i + 1) l)) (sym (ne_eqb good (i + 1) (behind good i g)))
-    where
-      behind : (a b : ℕ) → a ≤ b → a ≡ b + 1 → ⊥
-      behind a b g q = omega arith
+  digits-end true h = ap are_digits (drop_of_length-le l h)
+  digits-end false h = refl
 
   pub number-next : (n : ℕ) → i < length l → number_from n (drop i l) ≡ number_from (n * 16 + worth_of (get_or l i 0)) (drop (i + 1) l)
   unfolding number_from

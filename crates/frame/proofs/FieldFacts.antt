@@ -41,6 +41,9 @@ pub short-fits : (l : List ℕ) → length l ≤ 4 → are_digits l ≡ true →
 unfolding number_of
 short-fits l h e = lt_of_lt_of_le (number_fits (length l) l refl e) (pow_mono {i = 4 * length l} {j = 32} (omega arith))
 
+pub short_below : (at width : ℕ) (line : List ℕ) → at + width ≤ length line → are_digits line ≡ true → width ≤ 4 → field_of at width line < 2 ^ 16
+short_below at width line h e k = lt_of_lt_of_le (field_fits at width line h e) (pow_mono {i = 4 * width} {j = 16} (omega arith))
+
 pub number-back : (width n : ℕ) → n < 2 ^ (4 * width) → number_of (spelled_of width n) ≡ n
 unfolding number_of
 number-back width n h = number_spelled width 0 n ∙ ap (λ (k : ℕ). k + n % 2 ^ (4 * width)) (zero-mul (2 ^ (4 * width))) ∙ zero-add (n % 2 ^ (4 * width)) ∙ mod-eq_of_lt h

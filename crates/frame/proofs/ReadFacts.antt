@@ -9,7 +9,8 @@ use borrow.Author.Tests.{lt-ltb, le-leb, eq-eqb, ne_eqb, ltb-true, leb-true, eqb
 use lib.Dec.{ltb, leb, eqb}
 use lib.ListN.{length}
 use Rattle.frame.specs.declared.reading.Record.{Record}
-use Rattle.frame.specs.declared.reading.Reading.TheVariants.{Readable, Unreadable}
+use Rattle.std.proofs.Common.{None, Some}
+use Rattle.std.specs.Bool.{then_some}
 use Rattle.frame.specs.Layout.{byte_width, count_width, pair_width, number_at, zeros_at, longest_sum_at, rungs_at, backward_at, record_length, longest_pairs}
 use Rattle.frame.specs.Digits.{are_digits, field_of}
 use Rattle.frame.specs.Reading.{record_at, rest_inside, layout_kept, reading_of, RecordFits}
@@ -18,17 +19,17 @@ use Rattle.frame.proofs.FieldFacts.{field_fits}
 use Rattle.frame.proofs.WordFacts.{word_fits}
 
 module _ (line : List ℕ) (h : record_length ≤ length line) (e : are_digits line ≡ true) where
-  kept : (b : Bool) → rest_inside (field_of number_at byte_width line) (length line - record_length) ≡ b → layout_kept line ≡ b
-  unfolding layout_kept
-  kept b k = simp (le-leb record_length (length line) h, e) k
+  pub reading-kept : reading_of line ≡ then_some (rest_inside (record_at line).number (length line - record_length)) (record_at line)
+  unfolding reading_of layout_kept record_at
+  reading-kept = simp (le-leb record_length (length line) h, e) (sym (then-cond (rest_inside (field_of number_at byte_width line) (length line - record_length)) _))
+    where
+      then-cond : (b : Bool) (r : Record) → then_some b r ≡ cond b (Some r) None
+      then-cond true r = refl
+      then-cond false r = refl
 
-  pub readable : rest_inside (field_of number_at byte_width line) (length line - record_length) ≡ true → reading_of line ≡ Readable (record_at line)
-  unfolding reading_of
-  readable k = simp (kept true k)
-
-  pub unreadable : rest_inside (field_of number_at byte_width line) (length line - record_length) ≡ false → reading_of line ≡ Unreadable
-  unfolding reading_of
-  unreadable k = simp (kept false k)
+  pub readable : rest_inside (field_of number_at byte_width line) (length line - record_length) ≡ true → reading_of line ≡ Some (record_at line)
+  unfolding record_at
+  readable k = reading-kept ∙ ap (λ (b : Bool). then_some b (record_at line)) k
 
 -- ---- what may follow a number
 pub pairs-inside : (n : ℕ) → 1 ≤ n → n ≤ 512 → rest_inside 0 (n * pair_width) ≡ true
@@ -94,7 +95,7 @@ kept-is line k =
     let u = both (are_digits line) (rest_inside n (length line - record_length)) t.1 in
     (leb-true record_length (length line) t.0, u.0, rest-known n (length line - record_length) u.1)
 
-taken-if : (line : List ℕ) (r : Record) (b : Bool) → layout_kept line ≡ b → cond b (Readable (record_at line)) Unreadable ≡ Readable r → Taken line r
+taken-if : (line : List ℕ) (r : Record) (b : Bool) → layout_kept line ≡ b → cond b (Some (record_at line)) None ≡ Some r → Taken line r
 taken-if line r true k e =
     let is : r ≡ record_at line = cc in
     let t = kept-is line k in
@@ -108,6 +109,6 @@ taken-if line r true k e =
     }
 taken-if line r false k e = absurd (let z : ◌≡◌ {A = ℕ} 0 1 = cc in omega arith)
 
-pub taken : (line : List ℕ) (r : Record) → reading_of line ≡ Readable r → Taken line r
+pub taken : (line : List ℕ) (r : Record) → reading_of line ≡ Some r → Taken line r
 unfolding reading_of
 taken line r e = taken-if line r (layout_kept line) refl e

@@ -13,7 +13,12 @@ use lib.Ieee.{Float, binary64, to_bits}
 use lib.IntN.{ℤ}
 use lib.ListN.{length, take, get_or, length-append, length-take}
 use lib.Seq.{take_at, take-suc}
-use Rattle.call.specs.declared.answer.Answer.{Answer}
+use Rattle.std.proofs.Common.{Ok, Err}
+use Rattle.refusal.specs.Number.{number_of}
+use Rattle.refusal.specs.declared.refusal.Refusal.{Refusal}
+use Rattle.refusal.proofs.Distinct.{never-zero}
+use Rattle.call.specs.declared.answer.Counts.{Counts}
+use Rattle.call.specs.Answer.{Answer, number_in, zeros_in, longest_in, rungs_in, backward_in}
 use Rattle.frame.specs.declared.asking.Fields.{Fields}
 use Rattle.frame.specs.Layout.{byte_width, count_width, float_width, asking_length, record_length}
 use Rattle.frame.specs.Digits.{are_digits, spelled_of}
@@ -72,11 +77,11 @@ module _ (number : ℕ) (zeros : ℤ) (sum rungs backward : ℕ) where
 
 pub record-length : (a : Answer) → length (record_of a) ≡ record_length
 unfolding record_of
-record-length a = spelled-record-length a.number a.zeros a.longest_sum a.rungs a.backward
+record-length a = spelled-record-length (number_in a) (zeros_in a) (longest_in a) (rungs_in a) (backward_in a)
 
 module _ (a : Answer) (d o1 o2 o3 o4 o5 : List ℕ) (n z s r b : ℕ) where
   pub record-written :
-      n ≡ a.number → z ≡ twos_complement a.zeros → s ≡ a.longest_sum → r ≡ a.rungs → b ≡ a.backward →
+      n ≡ number_in a → z ≡ twos_complement (zeros_in a) → s ≡ longest_in a → r ≡ rungs_in a → b ≡ backward_in a →
       o1 ≡ over 0 (spelled_of byte_width n) d → o2 ≡ over 2 (spelled_of count_width z) o1 → o3 ≡ over 6 (spelled_of count_width s) o2 → o4 ≡ over 10 (spelled_of count_width r) o3 → o5 ≡ over 14 (spelled_of count_width b) o4 →
       o5 ≡ over 0 (record_of a) d
   unfolding record_of spelled_record
@@ -145,16 +150,23 @@ module _ (cells : List Float) (at : ℕ) (d out : List ℕ) (place i : ℕ) wher
       small : (i n : ℕ) → i ≤ n → min i n ≡ i
       small i n h = omega arith
 
+-- ---- an answer has the number 0, and a refusal another
+pub answered-number : (a : Answer) (counts : Counts) → a ≡ Ok counts → number_in a ≡ 0
+answered-number a counts e = ap number_in e
+
+pub refused-number : (a : Answer) (refusal : Refusal) → a ≡ Err refusal → number_in a ≡ 0 → ⊥
+refused-number a refusal e z = let n : number_of refusal ≡ 0 = sym (ap number_in e) ∙ z in omega (arith, never-zero refusal)
+
 -- ---- the line: a refusal is the record alone, an answer the record and the cells
-pub line_refused : (a : Answer) (cells : List Float) → (a.number ≡ 0 → ⊥) → line_of a cells ≡ record_of a
+pub line_refused : (a : Answer) (cells : List Float) → (number_in a ≡ 0 → ⊥) → line_of a cells ≡ record_of a
 unfolding line_of
-line_refused a cells h = simp (ne_eqb a.number 0 h) (append-nil (record_of a))
+line_refused a cells h = simp (ne_eqb (number_in a) 0 h) (append-nil (record_of a))
 
-pub line-answered : (a : Answer) (cells : List Float) → a.number ≡ 0 → line_of a cells ≡ record_of a ++ cells_of cells
+pub line-answered : (a : Answer) (cells : List Float) → number_in a ≡ 0 → line_of a cells ≡ record_of a ++ cells_of cells
 unfolding line_of
-line-answered a cells h = simp (eq-eqb a.number 0 h)
+line-answered a cells h = simp (eq-eqb (number_in a) 0 h)
 
-pub line-length : (a : Answer) (cells : List Float) → a.number ≡ 0 → length (line_of a cells) ≡ record_length + length cells * float_width
+pub line-length : (a : Answer) (cells : List Float) → number_in a ≡ 0 → length (line_of a cells) ≡ record_length + length cells * float_width
 line-length a cells h =
     ap length (line-answered a cells h)
     ∙ length-append (record_of a) (cells_of cells)
@@ -168,7 +180,7 @@ line-most-if a cells false = simp length-append (omega (arith, record-length a))
 
 pub line-most : (a : Answer) (cells : List Float) → length (line_of a cells) ≤ record_length + length cells * float_width
 unfolding line_of
-line-most a cells = line-most-if a cells (eqb a.number 0)
+line-most a cells = line-most-if a cells (eqb (number_in a) 0)
 
 pub line-least : (a : Answer) (cells : List Float) → record_length ≤ length (line_of a cells)
 unfolding line_of
@@ -183,9 +195,9 @@ cells-digits-if cells false = refl
 pub line-digits : (a : Answer) (cells : List Float) → are_digits (line_of a cells) ≡ true
 unfolding line_of record_of
 line-digits a cells =
-    digits_append (record_of a) (cond (eqb a.number 0) (cells_of cells) []) (spelled-record-digits a.number a.zeros a.longest_sum a.rungs a.backward) (cells-digits-if cells (eqb a.number 0))
+    digits_append (record_of a) (cond (eqb (number_in a) 0) (cells_of cells) []) (spelled-record-digits (number_in a) (zeros_in a) (longest_in a) (rungs_in a) (backward_in a)) (cells-digits-if cells (eqb (number_in a) 0))
 
 -- the first two digits are the number's
-pub line-number : (a : Answer) (cells : List Float) → take byte_width (line_of a cells) ≡ spelled_of byte_width a.number
+pub line-number : (a : Answer) (cells : List Float) → take byte_width (line_of a cells) ≡ spelled_of byte_width (number_in a)
 unfolding line_of record_of spelled_record
-line-number a cells = let n = spelled_of byte_width a.number in ap (take byte_width) (append_assoc n _ _) ∙ take_at n _ byte_width (spelled-length byte_width a.number)
+line-number a cells = let n = spelled_of byte_width (number_in a) in ap (take byte_width) (append_assoc n _ _) ∙ take_at n _ byte_width (spelled-length byte_width (number_in a))

@@ -1,16 +1,12 @@
 -- An asking frame: a line of 56 digits, its fields, and which of them ask for something (docs/SCOPE.md, The frame program).
 -- Definitions only.
-use Rattle.std.specs.Prelude.{cond, ◌&&◌, List, ◌++◌, ℕ, ◌^◌, ◌<◌, ltb, eqb, length}
+use Rattle.std.specs.Prelude.{cond, ◌&&◌, List, ◌++◌, ℕ, ◌^◌, ◌<◌, ltb, eqb, length, Option, None, Some}
 use Rattle.std.specs.Float.{binary64}
 use Rattle.std.specs.Float.Ieee.{of_bits}
 use Rattle.call.specs.declared.kind.Kind.{Kind}
 use Rattle.call.specs.declared.kind.Kind.TheVariants.{K, I}
 use Rattle.frame.specs.declared.asking.Fields.{Fields}
-use Rattle.frame.specs.declared.asking.Framed.{Framed}
-use Rattle.frame.specs.declared.asking.Framed.TheVariants.{Frame, NoFrame}
 use Rattle.frame.specs.declared.asking.Asking.{Asking}
-use Rattle.frame.specs.declared.asking.Parsed.{Parsed}
-use Rattle.frame.specs.declared.asking.Parsed.TheVariants.{Asked, Malformed}
 use Rattle.frame.specs.Layout.{byte_width, count_width, float_width, kind_at, scaling_at, count_at, order_at, re_at, im_at, asking_length}
 use Rattle.frame.specs.Digits.{are_digits, spelled_of, field_of}
 
@@ -25,8 +21,8 @@ fields_of line = record {
 }
 
 -- by its layout alone: another length or another byte than a digit is no frame
-unfoldable pub framed_of : List ℕ → Framed
-framed_of line = cond (eqb (length line) asking_length && are_digits line) (Frame (fields_of line)) NoFrame
+unfoldable pub framed_of : List ℕ → Option Fields
+framed_of line = cond (eqb (length line) asking_length && are_digits line) (Some (fields_of line)) None
 
 -- scaling 00 is unscaled, 01 scaled
 unfoldable pub asking_of : Kind → Fields → Asking
@@ -40,16 +36,16 @@ asking_of kind f = record {
 }
 
 -- kind 01 is K, 02 is I; any other is malformed, and so is any other scaling than 00 and 01
-unfoldable pub asked_of : Fields → Parsed
+unfoldable pub asked_of : Fields → Option Asking
 asked_of f =
-    cond (ltb 1 f.scaling) Malformed
-    (cond (eqb f.kind 1) (Asked (asking_of K f)) (cond (eqb f.kind 2) (Asked (asking_of I f)) Malformed))
+    cond (ltb 1 f.scaling) None
+    (cond (eqb f.kind 1) (Some (asking_of K f)) (cond (eqb f.kind 2) (Some (asking_of I f)) None))
 
-unfoldable pub asked_in : Framed → Parsed
-asked_in (Frame f) = asked_of f
-asked_in NoFrame = Malformed
+unfoldable pub asked_in : Option Fields → Option Asking
+asked_in (Some f) = asked_of f
+asked_in None = None
 
-unfoldable pub parsed_of : List ℕ → Parsed
+unfoldable pub parsed_of : List ℕ → Option Asking
 parsed_of line = asked_in (framed_of line)
 
 -- ---- the line of given fields

@@ -1,13 +1,11 @@
 -- An answer line, read by its layout alone: 18 digits of the record, behind the number 0 one to 512 pairs, and behind any other number none
 -- (docs/SCOPE.md, The frame program). Which numbers there are, and how large a count can be, is not asked here. Definitions only.
-use Rattle.std.specs.Prelude.{◌≡◌, Bool, cond, ◌&&◌, List, [], ◌∷◌, ◌++◌, length, Float}
+use Rattle.std.specs.Prelude.{◌≡◌, Bool, cond, ◌&&◌, List, [], ◌∷◌, ◌++◌, length, Float, Option, None, Some}
 use Rattle.std.specs.Prelude.{ℕ, zero, suc, ◌+◌, ◌*◌, ◌-◌, ◌/◌, ◌%◌, ◌≤◌, ◌<◌, ltb, leb, eqb, ℤ, pos, negsuc}
 use Rattle.std.specs.Float.{binary64}
 use Rattle.std.specs.Float.Ieee.{of_bits}
-use Rattle.call.specs.declared.answer.Answer.{Answer}
+use Rattle.call.specs.Answer.{Answer, number_in, zeros_in, longest_in, rungs_in, backward_in}
 use Rattle.frame.specs.declared.reading.Record.{Record}
-use Rattle.frame.specs.declared.reading.Reading.{Reading}
-use Rattle.frame.specs.declared.reading.Reading.TheVariants.{Readable, Unreadable}
 use Rattle.frame.specs.Layout.{byte_width, count_width, float_width, pair_width, number_at, zeros_at, longest_sum_at, rungs_at, backward_at}
 use Rattle.frame.specs.Layout.{record_length, longest_pairs}
 use Rattle.frame.specs.Digits.{are_digits, field_of}
@@ -35,8 +33,8 @@ rest_inside number rest = cond (eqb number 0) (ltb 0 rest && (leb rest longest_p
 unfoldable pub layout_kept : List ℕ → Bool
 layout_kept line = leb record_length (length line) && (are_digits line && rest_inside (field_of number_at byte_width line) (length line - record_length))
 
-unfoldable pub reading_of : List ℕ → Reading
-reading_of line = cond (layout_kept line) (Readable (record_at line)) Unreadable
+unfoldable pub reading_of : List ℕ → Option Record
+reading_of line = cond (layout_kept line) (Some (record_at line)) None
 
 -- ---- the cells, re before im: the bits of one by its place, and of the first n
 unfoldable pub cell_bits_of : ℕ → List ℕ → ℕ
@@ -68,11 +66,11 @@ pub record RecordFits (r : Record) : Type 0 where
 -- of an answer and so many pairs
 unfoldable pub said_of : Answer → ℕ → Record
 said_of a pairs = record {
-  number = a.number;
-  zeros = a.zeros;
-  longest_sum = a.longest_sum;
-  rungs = a.rungs;
-  backward = a.backward;
+  number = number_in a;
+  zeros = zeros_in a;
+  longest_sum = longest_in a;
+  rungs = rungs_in a;
+  backward = backward_in a;
   pairs = pairs;
 }
 

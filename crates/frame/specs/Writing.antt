@@ -2,7 +2,7 @@
 use Rattle.std.specs.Prelude.{cond, List, [], ◌∷◌, ◌++◌, ℕ, ◌-◌, ◌%◌, eqb, Float, ℤ, pos, negsuc}
 use Rattle.std.specs.Float.{binary64}
 use Rattle.std.specs.Float.Ieee.{to_bits}
-use Rattle.call.specs.declared.answer.Answer.{Answer}
+use Rattle.call.specs.Answer.{Answer, number_in, zeros_in, longest_in, rungs_in, backward_in}
 use Rattle.frame.specs.Layout.{byte_width, count_width, float_width}
 use Rattle.frame.specs.Digits.{spelled_of}
 
@@ -21,7 +21,7 @@ spelled_record number zeros longest_sum rungs backward =
     ++ spelled_of count_width backward)))
 
 unfoldable pub record_of : Answer → List ℕ
-record_of a = spelled_record a.number a.zeros a.longest_sum a.rungs a.backward
+record_of a = spelled_record (number_in a) (zeros_in a) (longest_in a) (rungs_in a) (backward_in a)
 
 -- each pattern of bits in sixteen digits
 unfoldable pub spelled_patterns : List ℕ → List ℕ
@@ -35,4 +35,4 @@ cells_of (x ∷ xs) = spelled_of float_width (to_bits binary64 x) ++ cells_of xs
 
 -- the pairs follow the number 0 alone
 unfoldable pub line_of : Answer → List Float → List ℕ
-line_of a cells = record_of a ++ cond (eqb a.number 0) (cells_of cells) []
+line_of a cells = record_of a ++ cond (eqb (number_in a) 0) (cells_of cells) []

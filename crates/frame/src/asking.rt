@@ -1,13 +1,12 @@
 // An asking frame: its fields read by the layout alone, bits kept; what they ask, or that they are malformed; and the line of given fields.
 // From docs/SCOPE.md, The frame program. Promised for every line and all fields: framed_of, parsed_of and asking_line_of of specs/Asking.antt.
 // No other check is made here.
-ghost use Rattle.std.specs.Prelude.{◌≡◌, true, ◌+◌, ◌≤◌, length};
+ghost use Rattle.std.specs.Prelude.{◌≡◌, ◌+◌, ◌≤◌, length};
 ghost use Rattle.frame.specs.Layout.{asking_length};
-ghost use Rattle.frame.specs.Digits.{are_digits};
 ghost use Rattle.frame.specs.Over.{over};
 ghost use Rattle.frame.specs.Asking.{fields_of, framed_of, asking_of, asked_of, parsed_of, asking_line_of};
 
-use crate::digits::{are_digits, number, spell};
+use crate::digits::{Digits, spell};
 use crate::layout::{
     ASKING_LENGTH, BYTE_WIDTH, COUNT_AT, COUNT_WIDTH, FLOAT_WIDTH, IM_AT, KIND_AT, ORDER_AT, RE_AT,
     SCALING_AT,
@@ -16,7 +15,7 @@ use call::kind::Kind;
 use machine::bits::of_pattern;
 
 // The fields as they stand, each a number.
-#[derive(Clone, Copy)]
+#[derive(Clone, Copy, Debug, PartialEq, Eq)]
 pub struct Fields {
     pub kind: u64,
     pub scaling: u64,
@@ -24,12 +23,6 @@ pub struct Fields {
     pub v: u64,
     pub re: u64,
     pub im: u64,
-}
-
-#[derive(Clone, Copy)]
-pub enum Framed {
-    Frame(Fields),
-    NoFrame,
 }
 
 #[derive(Clone, Copy)]
@@ -42,36 +35,29 @@ pub struct Asking {
     pub im: f64,
 }
 
-#[derive(Clone, Copy)]
-pub enum Parsed {
-    Asked(Asking),
-    Malformed,
-}
-
-fn read_fields(line: &[u8]) -> Fields
-    requires { (length line.now ≡ asking_length) × (are_digits line.now ≡ true) }
-    ensures { result ≡ fields_of line.now }
+fn read_fields(digits: &Digits) -> Fields
+    requires { length digits.now.line.now ≡ asking_length }
+    ensures { result ≡ fields_of digits.now.line.now }
 {
     Fields {
-        kind: number(&line[KIND_AT..SCALING_AT]),
-        scaling: number(&line[SCALING_AT..COUNT_AT]),
-        count: number(&line[COUNT_AT..ORDER_AT]),
-        v: number(&line[ORDER_AT..RE_AT]),
-        re: number(&line[RE_AT..IM_AT]),
-        im: number(&line[IM_AT..ASKING_LENGTH]),
+        kind: digits.field(KIND_AT, BYTE_WIDTH),
+        scaling: digits.field(SCALING_AT, BYTE_WIDTH),
+        count: digits.field(COUNT_AT, COUNT_WIDTH),
+        v: digits.field(ORDER_AT, FLOAT_WIDTH),
+        re: digits.field(RE_AT, FLOAT_WIDTH),
+        im: digits.field(IM_AT, FLOAT_WIDTH),
     }
 }
 
-pub fn read_asking(line: &[u8]) -> Framed
+// None of a line that is no frame.
+#[tactic(auto, using(std::proofs::lemmas::Bool::Decides::nat_tests), unfolding(crate::specs::Asking::framed_of))]
+pub fn read_asking(line: &[u8]) -> Option<Fields>
     ensures { result ≡ framed_of line.now }
 {
     if line.len() != ASKING_LENGTH {
-        return Framed::NoFrame;
+        return None;
     }
-    if !are_digits(line) {
-        return Framed::NoFrame;
-    }
-    Framed::Frame(read_fields(line))
+    Some(read_fields(&Digits::of(line)?))
 }
 
 fn asking_of(kind: Kind, f: Fields) -> Asking
@@ -87,29 +73,26 @@ fn asking_of(kind: Kind, f: Fields) -> Asking
     }
 }
 
-pub fn asked(f: Fields) -> Parsed
+// None of malformed fields.
+#[tactic(auto, using(std::proofs::lemmas::Bool::Decides::nat_tests), unfolding(crate::specs::Asking::asked_of))]
+pub fn asked(f: Fields) -> Option<Asking>
     ensures { result ≡ asked_of f }
 {
     if f.scaling > 1 {
-        return Parsed::Malformed;
+        return None;
     }
-    if f.kind == 1 {
-        return Parsed::Asked(asking_of(Kind::K, f));
+    match f.kind {
+        1 => Some(asking_of(Kind::K, f)),
+        2 => Some(asking_of(Kind::I, f)),
+        _ => None,
     }
-    if f.kind == 2 {
-        return Parsed::Asked(asking_of(Kind::I, f));
-    }
-    Parsed::Malformed
 }
 
-pub fn parse(line: &[u8]) -> Parsed
+#[tactic(auto, unfolding(crate::specs::Asking::asked_in, crate::specs::Asking::parsed_of))]
+pub fn parse(line: &[u8]) -> Option<Asking>
     ensures { result ≡ parsed_of line.now }
 {
-    let framed = read_asking(line);
-    match framed {
-        Framed::Frame(f) => asked(f),
-        Framed::NoFrame => Parsed::Malformed,
-    }
+    asked(read_asking(line)?)
 }
 
 // The line of the fields, from the place `at` on; of a number too large for its place the last digits.

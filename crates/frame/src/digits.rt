@@ -1,34 +1,25 @@
 // Upper-case hexadecimal: digits read to a number, and a number written as digits. Promised: specs/Digits.antt.
 // No branch waits for a digit, and there is no table: an array would be stored anew in each call.
-ghost use Rattle.std.specs.Prelude.{◌≡◌, true, ◌+◌, ◌≤◌, ◌<◌, length};
-ghost use Rattle.frame.specs.Digits.{is_digit, are_digits, worth_of, number_of, digit_of, spelled_of};
+ghost use Rattle.std.specs.Prelude.{◌≡◌, true, ◌+◌, ◌≤◌, ◌<◌, length, IfSome, is_some};
+ghost use Rattle.frame.specs.Digits.{is_digit, are_digits, worth_of, number_of, field_of, digit_of, spelled_of};
 ghost use Rattle.frame.specs.Over.{over};
 
+#[tactic(auto, using(std::proofs::lemmas::Bool::Decides::nat_tests), unfolding(crate::specs::Digits::is_digit))]
 fn is_digit(c: u8) -> bool
     ensures { result ≡ is_digit c }
 {
-    if c < 58 {
-        return c >= 48;
-    }
-    if c < 71 {
-        return c >= 65;
-    }
-    false
+    c.is_ascii_digit() || matches!(c, b'A'..=b'F')
 }
 
-// Every byte is looked at, and those that are digits are counted: such a loop takes many bytes at once.
+// Every byte is looked at, also behind one that is no digit: such a loop takes many bytes at once.
 pub fn are_digits(line: &[u8]) -> bool
     ensures { result ≡ are_digits line.now }
 {
-    let mut good = 0;
-    let mut i = 0;
-    while i < line.len() {
-        if is_digit(line[i]) {
-            good += 1;
-        }
-        i += 1;
+    let mut all = true;
+    for &c in line {
+        all &= is_digit(c);
     }
-    good == line.len()
+    all
 }
 
 // A letter is 64 above its place in the alphabet, and its worth 9 above that.
@@ -36,7 +27,7 @@ fn worth(c: u8) -> u64
     requires { is_digit c ≡ true }
     ensures { (result ≡ worth_of c) × (result < 16) }
 {
-    let byte = c as u64;
+    let byte = u64::from(c);
     byte % 16 + byte / 64 * 9
 }
 
@@ -45,12 +36,47 @@ pub fn number(digits: &[u8]) -> u64
     ensures { result ≡ number_of digits.now }
 {
     let mut n: u64 = 0;
-    let mut i = 0;
-    while i < digits.len() {
-        n = n * 16 + worth(digits[i]);
-        i += 1;
+    for &c in digits {
+        n = n * 16 + worth(c);
     }
     n
+}
+
+// A line that is known to be of digits alone.
+#[derive(Clone, Copy)]
+pub(crate) struct Digits<'a> {
+    pub(crate) line: &'a [u8],
+    pub(crate) ghost digits: { are_digits line.now ≡ true },
+}
+
+impl<'a> Digits<'a> {
+    // None where another byte stands in the line.
+    pub(crate) fn of(line: &'a [u8]) -> Option<Digits<'a>>
+        ensures some { is_some result ≡ are_digits line.now }
+        ensures line { IfSome result (λ d. d.line.now ≡ line.now) }
+    {
+        if are_digits(line) {
+            Some(Digits { line })
+        } else {
+            None
+        }
+    }
+
+    // The number of the `width` digits from the place `at` on.
+    pub(crate) fn field(&self, at: usize, width: usize) -> u64
+        requires { (width ≤ 16) × (at + width ≤ length self.now.line.now) }
+        ensures { result ≡ field_of at width self.now.line.now }
+    {
+        number(&self.line[at..at + width])
+    }
+
+    // The same of at most four digits.
+    pub(crate) fn short(&self, at: usize, width: usize) -> u32
+        requires { (width ≤ 4) × (at + width ≤ length self.now.line.now) }
+        ensures { (result ≡ field_of at width self.now.line.now) × (result < 65536) }
+    {
+        self.field(at, width) as u32
+    }
 }
 
 fn digit(d: u64) -> u8
@@ -69,9 +95,7 @@ pub fn spell(n: u64, width: usize, out: &mut [u8], at: usize)
     ensures { out.new ≡ over at (spelled_of width n) out.old }
 {
     let mut rest = n;
-    let mut i = width;
-    while i > 0 {
-        i -= 1;
+    for i in (0..width).rev() {
         out[at + i] = digit(rest % 16);
         rest /= 16;
     }

@@ -1,4 +1,6 @@
 -- No total overflows: a line counts for at most 65,535 in any cell, so that of 2^32 - 1 lines no cell comes near 2^64. Assumes nothing.
+use Rattle.frame.specs.declared.reading.Record.{Record}
+use Rattle.std.proofs.Common.{Option, None, Some}
 use mathlib.Core.Path.{◌≡◌, refl, sym, subst}
 use mathlib.Core.Bool.{Bool, true, false, cond, ◌&&◌}
 use mathlib.Core.List.{List, [], ◌∷◌}
@@ -8,8 +10,6 @@ use lib.Dec.{eqb}
 use lib.IntN.{ℤ, pos, negsuc, nat_abs}
 use lib.ListN.{length}
 use Rattle.splitting.specs.Count.{total_of}
-use Rattle.frame.specs.declared.reading.Reading.{Reading}
-use Rattle.frame.specs.declared.reading.Reading.TheVariants.{Readable, Unreadable}
 use Rattle.frame.specs.Reading.{reading_of, FitsWord, RecordFits}
 use Rattle.frame.proofs.ReadFacts.{taken}
 use Rattle.page.specs.Layout.{cells, most_lines}
@@ -18,23 +18,23 @@ use Rattle.page.specs.Parts.{as_number, as_longest, if_answered, rungs_in, backw
 use Rattle.page.proofs.PartFacts.{number-part, reserved-part, longest-part, end-part, at_cells}
 
 -- ---- what is read fits its fields
-unfoldable ReadFits : Reading → Type 0
-ReadFits (Readable r) = RecordFits r
-ReadFits Unreadable = Unit {0}
+unfoldable ReadFits : Option Record → Type 0
+ReadFits (Some r) = RecordFits r
+ReadFits None = Unit {0}
 
-reading-fits : (line : List ℕ) (s : Reading) → reading_of line ≡ s → ReadFits s
+reading-fits : (line : List ℕ) (s : Option Record) → reading_of line ≡ s → ReadFits s
 unfolding ReadFits
-reading-fits line (Readable r) e = (taken line r e).fits
-reading-fits line Unreadable e = tt
+reading-fits line (Some r) e = (taken line r e).fits
+reading-fits line None e = tt
 
-kept-fits : (s : Reading) → ReadFits s → ReadFits (said_in s)
+kept-fits : (s : Option Record) → ReadFits s → ReadFits (said_in s)
 unfolding ReadFits said_in
-kept-fits (Readable r) f = go (is_known r)
+kept-fits (Some r) f = go (is_known r)
   where
-    go : (b : Bool) → ReadFits (cond b (Readable r) Unreadable)
+    go : (b : Bool) → ReadFits (cond b (Some r) None)
     go true = f
     go false = tt
-kept-fits Unreadable f = tt
+kept-fits None f = tt
 
 said_fits : (line : List ℕ) → ReadFits (said_by line)
 unfolding said_by
@@ -54,32 +54,32 @@ unfolding FitsWord
 zeros-small (pos n) h = omega arith
 zeros-small (negsuc n) h = omega arith
 
-number_small : (i : ℕ) (s : Reading) → as_number i s ≤ 65535
+number_small : (i : ℕ) (s : Option Record) → as_number i s ≤ 65535
 unfolding as_number
-number_small i (Readable r) = one-small (eqb r.number i)
-number_small i Unreadable = omega arith
+number_small i (Some r) = one-small (eqb r.number i)
+number_small i None = omega arith
 
-longest-small : (l : ℕ) (s : Reading) → as_longest l s ≤ 65535
+longest-small : (l : ℕ) (s : Option Record) → as_longest l s ≤ 65535
 unfolding as_longest
-longest-small l (Readable r) = one-small (eqb r.number 0 && eqb r.longest_sum l)
-longest-small l Unreadable = omega arith
+longest-small l (Some r) = one-small (eqb r.number 0 && eqb r.longest_sum l)
+longest-small l None = omega arith
 
-end-small : (j : ℕ) (s : Reading) → ReadFits s → end_at j s ≤ 65535
+end-small : (j : ℕ) (s : Option Record) → ReadFits s → end_at j s ≤ 65535
 unfolding ReadFits end_at rungs_in backward_in zeros_in if_answered as_unreadable
-end-small zero (Readable r) f = if-small (eqb r.number 0) r.rungs (let h = f.rungs in omega arith)
-end-small (suc zero) (Readable r) f = if-small (eqb r.number 0) r.backward (let h = f.backward in omega arith)
-end-small (suc (suc zero)) (Readable r) f = if-small (eqb r.number 0) (nat_abs r.zeros) (zeros-small r.zeros f.zeros)
-end-small (suc (suc (suc zero))) (Readable r) f = omega arith
-end-small (suc (suc (suc (suc zero)))) (Readable r) f = omega arith
-end-small (suc (suc (suc (suc (suc j))))) (Readable r) f = omega arith
-end-small zero Unreadable f = omega arith
-end-small (suc zero) Unreadable f = omega arith
-end-small (suc (suc zero)) Unreadable f = omega arith
-end-small (suc (suc (suc zero))) Unreadable f = omega arith
-end-small (suc (suc (suc (suc zero)))) Unreadable f = omega arith
-end-small (suc (suc (suc (suc (suc j))))) Unreadable f = omega arith
+end-small zero (Some r) f = if-small (eqb r.number 0) r.rungs (let h = f.rungs in omega arith)
+end-small (suc zero) (Some r) f = if-small (eqb r.number 0) r.backward (let h = f.backward in omega arith)
+end-small (suc (suc zero)) (Some r) f = if-small (eqb r.number 0) (nat_abs r.zeros) (zeros-small r.zeros f.zeros)
+end-small (suc (suc (suc zero))) (Some r) f = omega arith
+end-small (suc (suc (suc (suc zero)))) (Some r) f = omega arith
+end-small (suc (suc (suc (suc (suc j))))) (Some r) f = omega arith
+end-small zero None f = omega arith
+end-small (suc zero) None f = omega arith
+end-small (suc (suc zero)) None f = omega arith
+end-small (suc (suc (suc zero))) None f = omega arith
+end-small (suc (suc (suc (suc zero)))) None f = omega arith
+end-small (suc (suc (suc (suc (suc j))))) None f = omega arith
 
-part_small : (s : Reading) → ReadFits s → (i : ℕ) → i < cells → part_at i s ≤ 65535
+part_small : (s : Option Record) → ReadFits s → (i : ℕ) → i < cells → part_at i s ≤ 65535
 part_small s f =
     at_cells (λ i. part_at i s ≤ 65535)
     (λ i h. subst (λ (n : ℕ). n ≤ 65535) (sym (number-part s i h)) (number_small i s))

@@ -1,16 +1,17 @@
 -- What a line counts for in a cell, by the cell's place. Assumes nothing.
+use Rattle.frame.specs.declared.reading.Record.{Record}
+use Rattle.std.proofs.Common.{Option}
 use mathlib.Core.Path.{◌≡◌, refl, sym, ap, subst}
 use mathlib.Core.Bool.{Bool, true, false}
 use Prim.Native.Nat.{ℕ, ◌+◌, ◌-◌, ◌≤◌, ◌<◌}
 use native.Mathlib.Omega.{arith}
 use borrow.Author.Tests.{lt-ltb, le-ltb, ltb-true, ltb-false, eqb-true, eqb-false}
 use lib.Dec.{ltb, eqb}
-use Rattle.frame.specs.declared.reading.Reading.{Reading}
 use Rattle.page.specs.Layout.{numbers, reserved_at, longest_at, rungs_at, cells}
 use Rattle.page.specs.Parts.{as_number, as_longest, end_at, part_at}
 
 -- ---- by its place
-module _ (s : Reading) where
+module _ (s : Option Record) where
   pub number-part : (i : ℕ) → i < numbers → part_at i s ≡ as_number i s
   unfolding part_at
   number-part i h = simp (lt-ltb i numbers h)

@@ -1,4 +1,5 @@
 -- What is known of a line that is read, and the page of one line. Assumes nothing.
+use Rattle.std.proofs.Common.{Option, None, Some}
 use mathlib.Core.Path.{◌≡◌, refl, ap, ◌∙◌}
 use mathlib.Core.Logic.{◌⊎◌, inl, inr}
 use mathlib.Core.Bool.{Bool, true, false, cond, ◌&&◌, ◌||◌}
@@ -10,9 +11,8 @@ use lib.Dec.{ltb, leb, eqb}
 use Rattle.refusal.specs.Number.{is_listed, number_of}
 use Rattle.refusal.specs.declared.refusal.Refusal.TheVariants.{Full}
 use Rattle.frame.specs.declared.reading.Record.{Record}
-use Rattle.frame.specs.declared.reading.Reading.{Reading}
-use Rattle.frame.specs.declared.reading.Reading.TheVariants.{Readable, Unreadable}
 use Rattle.frame.proofs.DigitFacts.{both}
+use Rattle.call.specs.Checks.{Admitted, Refused, number_given}
 use Rattle.splitting.specs.Count.{total_of}
 use Rattle.page.specs.Layout.{numbers, lines_at, cells, most_lines}
 use Rattle.page.specs.Saying.{is_known, said_in, said_by, Known}
@@ -36,21 +36,21 @@ listed-few n e =
 number-few : (n : ℕ) → (eqb n 0 || is_listed n) ≡ true → n < numbers
 number-few n e = elim (either (eqb n 0) (is_listed n) e) [ inl k ↦ (let q = eqb-true n 0 k in omega arith) | inr k ↦ (listed-few n k).1 ]
 
-record-known : (r : Record) → is_known r ≡ true → Known (Readable r)
+record-known : (r : Record) → is_known r ≡ true → Known (Some r)
 unfolding is_known Known
 record-known r e =
     let t = both (leb r.longest_sum 19) (eqb r.number 0 || is_listed r.number) e in
     let l = leb-true r.longest_sum 19 t.0 in
     (number-few r.number t.1, omega arith)
 
-pub said-known : (s : Reading) → Known (said_in s)
+pub said-known : (s : Option Record) → Known (said_in s)
 unfolding said_in Known
-said-known (Readable r) = go (is_known r) refl
+said-known (Some r) = go (is_known r) refl
   where
-    go : (b : Bool) → is_known r ≡ b → Known (cond b (Readable r) Unreadable)
+    go : (b : Bool) → is_known r ≡ b → Known (cond b (Some r) None)
     go true e = record-known r e
     go false e = tt
-said-known Unreadable = tt
+said-known None = tt
 
 -- ---- the page of one line
 total-one : (f : List ℕ → ℕ) (line : List ℕ) → total_of f (line ∷ []) ≡ f line
@@ -61,13 +61,22 @@ pub page-one : (line : List ℕ) → page_of (line ∷ []) ≡ one_page (said_by
 unfolding page_of one_page cell_of
 page-one line = up_to-same cells (λ i. total_of (λ l. part_at i (said_by l)) (line ∷ [])) (λ i. part_at i (said_by line)) (λ i h. total-one (λ l. part_at i (said_by l)) line)
 
-pub line-part : (s : Reading) → part_at lines_at s ≡ 1
+pub line-part : (s : Option Record) → part_at lines_at s ≡ 1
 unfolding part_at end_at
 line-part s = refl
 
-pub one_line : (s : Reading) → lines_in (one_page s) ≡ 1
+pub one_line : (s : Option Record) → lines_in (one_page s) ≡ 1
 unfolding one_page
 one_line s = up_to-get cells (λ i. part_at i s) lines_at (omega arith) ∙ line-part s
+
+-- ---- the number of what is handed back
+pub admitted-number : number_given Admitted ≡ 0
+unfolding number_given
+admitted-number = refl
+
+pub refused-number : number_given (Refused Full) ≡ number_of Full
+unfolding number_given
+refused-number = refl
 
 -- ---- where there is room and where there is none
 module _ (a b : List ℕ) where
@@ -87,7 +96,7 @@ module _ (a b : List ℕ) where
   unfolding join_page
   full-page e = simp e
 
-module _ (page : List ℕ) (s : Reading) where
+module _ (page : List ℕ) (s : Option Record) where
   pub room-for-one : lines_in page < most_lines → is_room page (one_page s) ≡ true
   unfolding is_room
   room-for-one h = let e = one_line s in le-leb (lines_in page + lines_in (one_page s)) most_lines (omega arith)

@@ -1,4 +1,5 @@
 -- A line added cell by cell is the page of that line joined. Assumes nothing.
+use Rattle.std.proofs.Common.{Option, None, Some}
 use mathlib.Core.Path.{◌≡◌, refl, sym, ap, ◌∙◌}
 use mathlib.Core.Bool.{Bool, true, false, cond}
 use mathlib.Core.List.{List}
@@ -10,8 +11,6 @@ use lib.IntN.{nat_abs}
 use lib.ListN.{length, get_or, set, length-set}
 use lib.Seq.{get_or-set_same, get_or-set_other}
 use Rattle.frame.specs.declared.reading.Record.{Record}
-use Rattle.frame.specs.declared.reading.Reading.{Reading}
-use Rattle.frame.specs.declared.reading.Reading.TheVariants.{Readable, Unreadable}
 use Rattle.page.specs.Layout.{numbers, longest_at, sums, rungs_at, backward_at, zeros_at, lines_at, unreadable_at, cells}
 use Rattle.page.specs.Parts.{as_number, as_longest, if_answered, rungs_in, backward_in, zeros_in, as_unreadable, end_at, part_at, one_page, up_to}
 use Rattle.page.specs.Joining.{added_to, joined_cells}
@@ -62,25 +61,25 @@ holds_more {page} {before} {x} at n h w =
     }
 
 -- where the sums are what a line counts for, the page of that line is joined
-joined_by : {page before : List ℕ} {x : ℕ → ℕ} (s : Reading) → Holds page before x → ((i : ℕ) → i < cells → x i ≡ part_at i s) → page ≡ joined_cells before (one_page s)
+joined_by : {page before : List ℕ} {x : ℕ → ℕ} (s : Option Record) → Holds page before x → ((i : ℕ) → i < cells → x i ≡ part_at i s) → page ≡ joined_cells before (one_page s)
 unfolding joined_cells one_page
 joined_by {page} {before} {x} s w same =
     row_is cells page (λ i. added_to (get_or before i 0) (get_or (up_to cells (λ (j : ℕ). part_at j s)) i 0)) w.long
     (λ i h. w.is i ∙ ap (added_to (get_or before i 0)) (same i h ∙ sym (up_to-get cells (λ (j : ℕ). part_at j s) i h)))
 
 -- ---- an unreadable line
-number-none : (i : ℕ) → as_number i Unreadable ≡ 0
+number-none : (i : ℕ) → as_number i None ≡ 0
 unfolding as_number
 number-none i = refl
 
-longest-none : (l : ℕ) → as_longest l Unreadable ≡ 0
+longest-none : (l : ℕ) → as_longest l None ≡ 0
 unfolding as_longest
 longest-none l = refl
 
 abbrev unreadable_sum : ℕ → ℕ
 unreadable_sum i = 0 + one_at lines_at 1 i + one_at unreadable_at 1 i
 
-unreadable-ends : (j : ℕ) → j < 5 → unreadable_sum (rungs_at + j) ≡ end_at j Unreadable
+unreadable-ends : (j : ℕ) → j < 5 → unreadable_sum (rungs_at + j) ≡ end_at j None
 unfolding end_at rungs_in backward_in zeros_in if_answered as_unreadable
 unreadable-ends zero h = refl
 unreadable-ends (suc zero) h = refl
@@ -89,21 +88,21 @@ unreadable-ends (suc (suc (suc zero))) h = refl
 unreadable-ends (suc (suc (suc (suc zero)))) h = refl
 unreadable-ends (suc (suc (suc (suc (suc j))))) h = absurd (omega arith)
 
-unreadable-sum : (i : ℕ) → i < cells → unreadable_sum i ≡ part_at i Unreadable
+unreadable-sum : (i : ℕ) → i < cells → unreadable_sum i ≡ part_at i None
 unreadable-sum =
-    at_cells (λ i. unreadable_sum i ≡ part_at i Unreadable)
-    (λ i h. simp (number-part Unreadable i h, number-none, none-at lines_at 1 i (omega arith), none-at unreadable_at 1 i (omega arith)))
-    (sym (reserved-part Unreadable))
-    (λ l h. simp (longest-part Unreadable l h, longest-none, none-at lines_at 1 (longest_at + l) (omega arith), none-at unreadable_at 1 (longest_at + l) (omega arith)))
-    (λ j h. unreadable-ends j h ∙ sym (end-part Unreadable j))
+    at_cells (λ i. unreadable_sum i ≡ part_at i None)
+    (λ i h. simp (number-part None i h, number-none, none-at lines_at 1 i (omega arith), none-at unreadable_at 1 i (omega arith)))
+    (sym (reserved-part None))
+    (λ l h. simp (longest-part None l h, longest-none, none-at lines_at 1 (longest_at + l) (omega arith), none-at unreadable_at 1 (longest_at + l) (omega arith)))
+    (λ j h. unreadable-ends j h ∙ sym (end-part None j))
 
-pub unreadable-joined : (page : List ℕ) → length page ≡ cells → with_line unreadable_at page ≡ joined_cells page (one_page Unreadable)
+pub unreadable-joined : (page : List ℕ) → length page ≡ cells → with_line unreadable_at page ≡ joined_cells page (one_page None)
 unfolding with_line
-unreadable-joined page h = joined_by Unreadable (holds_more unreadable_at 1 (omega arith) (holds_more lines_at 1 (omega arith) (at_first page h))) unreadable-sum
+unreadable-joined page h = joined_by None (holds_more unreadable_at 1 (omega arith) (holds_more lines_at 1 (omega arith) (at_first page h))) unreadable-sum
 
 -- ---- a line that is read
 module _ (r : Record) where
-  number_is : (i : ℕ) → as_number i (Readable r) ≡ one_at r.number 1 i
+  number_is : (i : ℕ) → as_number i (Some r) ≡ one_at r.number 1 i
   unfolding as_number
   number_is i = refl
 
@@ -112,11 +111,11 @@ module _ (r : Record) where
 
   -- refused
   module _ (some : r.number ≡ 0 → ⊥) (few : r.number < numbers) where
-    refused-longest : (l : ℕ) → as_longest l (Readable r) ≡ 0
+    refused-longest : (l : ℕ) → as_longest l (Some r) ≡ 0
     unfolding as_longest
     refused-longest l = simp (ne_eqb r.number 0 some)
 
-    refused-ends : (j : ℕ) → j < 5 → read_sum (rungs_at + j) ≡ end_at j (Readable r)
+    refused-ends : (j : ℕ) → j < 5 → read_sum (rungs_at + j) ≡ end_at j (Some r)
     unfolding end_at rungs_in backward_in zeros_in if_answered as_unreadable
     refused-ends zero h = simp (ne_eqb r.number 0 some, none-at r.number 1 53 (omega arith))
     refused-ends (suc zero) h = simp (ne_eqb r.number 0 some, none-at r.number 1 54 (omega arith))
@@ -125,17 +124,17 @@ module _ (r : Record) where
     refused-ends (suc (suc (suc (suc zero)))) h = simp (none-at r.number 1 57 (omega arith))
     refused-ends (suc (suc (suc (suc (suc j))))) h = absurd (omega arith)
 
-    refused-sum : (i : ℕ) → i < cells → read_sum i ≡ part_at i (Readable r)
+    refused-sum : (i : ℕ) → i < cells → read_sum i ≡ part_at i (Some r)
     refused-sum =
-        at_cells (λ i. read_sum i ≡ part_at i (Readable r))
-        (λ i h. simp (number-part (Readable r) i h, number_is, none-at lines_at 1 i (omega arith)) (omega arith))
-        (simp (none-at r.number 1 32 (omega arith)) (sym (reserved-part (Readable r))))
-        (λ l h. simp (longest-part (Readable r) l h, refused-longest, none-at lines_at 1 (longest_at + l) (omega arith), none-at r.number 1 (longest_at + l) (omega arith)))
-        (λ j h. refused-ends j h ∙ sym (end-part (Readable r) j))
+        at_cells (λ i. read_sum i ≡ part_at i (Some r))
+        (λ i h. simp (number-part (Some r) i h, number_is, none-at lines_at 1 i (omega arith)) (omega arith))
+        (simp (none-at r.number 1 32 (omega arith)) (sym (reserved-part (Some r))))
+        (λ l h. simp (longest-part (Some r) l h, refused-longest, none-at lines_at 1 (longest_at + l) (omega arith), none-at r.number 1 (longest_at + l) (omega arith)))
+        (λ j h. refused-ends j h ∙ sym (end-part (Some r) j))
 
-    pub refused-joined : (page : List ℕ) → length page ≡ cells → with_line r.number page ≡ joined_cells page (one_page (Readable r))
+    pub refused-joined : (page : List ℕ) → length page ≡ cells → with_line r.number page ≡ joined_cells page (one_page (Some r))
     unfolding with_line
-    refused-joined page h = joined_by (Readable r) (holds_more r.number 1 (omega arith) (holds_more lines_at 1 (omega arith) (at_first page h))) refused-sum
+    refused-joined page h = joined_by (Some r) (holds_more r.number 1 (omega arith) (holds_more lines_at 1 (omega arith) (at_first page h))) refused-sum
 
   -- answered
   module _ (none : r.number ≡ 0) (few : r.longest_sum < sums) where
@@ -145,7 +144,7 @@ module _ (r : Record) where
     abbrev answered_sum : ℕ → ℕ
     answered_sum i = read_sum i + one_at place 1 i + one_at rungs_at r.rungs i + one_at backward_at r.backward i + one_at zeros_at (nat_abs r.zeros) i
 
-    answered-longest : (l : ℕ) → as_longest l (Readable r) ≡ one_at place 1 (longest_at + l)
+    answered-longest : (l : ℕ) → as_longest l (Some r) ≡ one_at place 1 (longest_at + l)
     unfolding as_longest
     answered-longest l = simp (eq-eqb r.number 0 none) (go (eqb r.longest_sum l) refl)
       where
@@ -153,7 +152,7 @@ module _ (r : Record) where
         go true e = let k = eqb-true r.longest_sum l e in simp (e, eq-eqb place (longest_at + l) (omega arith))
         go false e = let k = eqb-false r.longest_sum l e in simp (e, ne_eqb place (longest_at + l) (λ q. k (omega arith)))
 
-    answered-ends : (j : ℕ) → j < 5 → answered_sum (rungs_at + j) ≡ end_at j (Readable r)
+    answered-ends : (j : ℕ) → j < 5 → answered_sum (rungs_at + j) ≡ end_at j (Some r)
     unfolding end_at rungs_in backward_in zeros_in if_answered as_unreadable
     answered-ends zero h = simp (eq-eqb r.number 0 none, none-at r.number 1 53 (omega arith), none-at place 1 53 (omega arith)) (omega arith)
     answered-ends (suc zero) h = simp (eq-eqb r.number 0 none, none-at r.number 1 54 (omega arith), none-at place 1 54 (omega arith)) (omega arith)
@@ -162,12 +161,12 @@ module _ (r : Record) where
     answered-ends (suc (suc (suc (suc zero)))) h = simp (none-at r.number 1 57 (omega arith), none-at place 1 57 (omega arith))
     answered-ends (suc (suc (suc (suc (suc j))))) h = absurd (omega arith)
 
-    answered-sum : (i : ℕ) → i < cells → answered_sum i ≡ part_at i (Readable r)
+    answered-sum : (i : ℕ) → i < cells → answered_sum i ≡ part_at i (Some r)
     answered-sum =
-        at_cells (λ i. answered_sum i ≡ part_at i (Readable r))
+        at_cells (λ i. answered_sum i ≡ part_at i (Some r))
         (λ i h.
         simp (
-          number-part (Readable r) i h,
+          number-part (Some r) i h,
           number_is,
           none-at lines_at 1 i (omega arith),
           none-at place 1 i (omega arith),
@@ -175,10 +174,10 @@ module _ (r : Record) where
           none-at backward_at r.backward i (omega arith),
           none-at zeros_at (nat_abs r.zeros) i (omega arith),
         ) (omega arith))
-        (simp (none-at r.number 1 32 (omega arith), none-at place 1 32 (omega arith)) (sym (reserved-part (Readable r))))
+        (simp (none-at r.number 1 32 (omega arith), none-at place 1 32 (omega arith)) (sym (reserved-part (Some r))))
         (λ l h.
         simp (
-          longest-part (Readable r) l h,
+          longest-part (Some r) l h,
           answered-longest l,
           none-at lines_at 1 (longest_at + l) (omega arith),
           none-at r.number 1 (longest_at + l) (omega arith),
@@ -186,12 +185,12 @@ module _ (r : Record) where
           none-at backward_at r.backward (longest_at + l) (omega arith),
           none-at zeros_at (nat_abs r.zeros) (longest_at + l) (omega arith),
         ) (omega arith))
-        (λ j h. answered-ends j h ∙ sym (end-part (Readable r) j))
+        (λ j h. answered-ends j h ∙ sym (end-part (Some r) j))
 
-    pub answered-joined : (page : List ℕ) → length page ≡ cells → with_answered r (with_line r.number page) ≡ joined_cells page (one_page (Readable r))
+    pub answered-joined : (page : List ℕ) → length page ≡ cells → with_answered r (with_line r.number page) ≡ joined_cells page (one_page (Some r))
     unfolding with_answered with_line
     answered-joined page h =
-        joined_by (Readable r)
+        joined_by (Some r)
         (holds_more zeros_at (nat_abs r.zeros) (omega arith)
         (holds_more backward_at r.backward (omega arith)
         (holds_more rungs_at r.rungs (omega arith)

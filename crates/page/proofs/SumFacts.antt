@@ -1,4 +1,6 @@
 -- The parts of a page add up: read lines by number, answered ones by longest sum, and read and unreadable ones. Assumes nothing.
+use Rattle.frame.specs.declared.reading.Record.{Record}
+use Rattle.std.proofs.Common.{Option, None, Some}
 use mathlib.Core.Path.{◌≡◌, refl, sym, ap, ◌∙◌}
 use mathlib.Core.Bool.{Bool, true, false, cond, ◌&&◌}
 use mathlib.Core.List.{List, [], ◌∷◌}
@@ -7,8 +9,6 @@ use native.Mathlib.Omega.{arith}
 use lib.Dec.{eqb}
 use lib.ListN.{length}
 use Rattle.splitting.specs.Count.{total_of}
-use Rattle.frame.specs.declared.reading.Reading.{Reading}
-use Rattle.frame.specs.declared.reading.Reading.TheVariants.{Readable, Unreadable}
 use Rattle.frame.specs.Reading.{reading_of}
 use Rattle.page.specs.Layout.{numbers, longest_at, sums, lines_at, unreadable_at}
 use Rattle.page.specs.Saying.{said_by, Known}
@@ -52,26 +52,26 @@ unfolding said_by
 known line = said-known (reading_of line)
 
 -- ---- one line
-numbers_of : (s : Reading) → Known s → sum_up_to numbers (λ k. as_number k s) ≡ as_read s
+numbers_of : (s : Option Record) → Known s → sum_up_to numbers (λ k. as_number k s) ≡ as_read s
 unfolding Known as_number as_read
-numbers_of (Readable r) h = sum_one numbers r.number 1 h.0
-numbers_of Unreadable h = sum_zeros numbers
+numbers_of (Some r) h = sum_one numbers r.number 1 h.0
+numbers_of None h = sum_zeros numbers
 
-longest-of : (s : Reading) → Known s → sum_up_to sums (λ l. as_longest l s) ≡ as_number 0 s
+longest-of : (s : Option Record) → Known s → sum_up_to sums (λ l. as_longest l s) ≡ as_number 0 s
 unfolding Known as_longest as_number
-longest-of (Readable r) h = go (eqb r.number 0)
+longest-of (Some r) h = go (eqb r.number 0)
   where
     go : (b : Bool) → sum_up_to sums (λ l. cond (b && eqb r.longest_sum l) 1 0) ≡ cond b 1 0
     go true = sum_one sums r.longest_sum 1 h.1
     go false = sum_zeros sums
-longest-of Unreadable h = sum_zeros sums
+longest-of None h = sum_zeros sums
 
-read-or-not : (s : Reading) → as_read s + as_unreadable s ≡ 1
+read-or-not : (s : Option Record) → as_read s + as_unreadable s ≡ 1
 unfolding as_read as_unreadable
-read-or-not (Readable r) = refl
-read-or-not Unreadable = refl
+read-or-not (Some r) = refl
+read-or-not None = refl
 
-unreadable-part : (s : Reading) → part_at unreadable_at s ≡ as_unreadable s
+unreadable-part : (s : Option Record) → part_at unreadable_at s ≡ as_unreadable s
 unfolding part_at end_at
 unreadable-part s = refl
 

@@ -2,52 +2,43 @@
 // From docs/SCOPE.md, The page. Promised, for every page, whatever its cells hold, and every line: specs/Joining.antt. Where 15 is given, each page
 // stands as it was.
 ghost use Rattle.std.specs.Prelude.{◌≡◌, true, ◌+◌, ◌≤◌, ◌<◌, leb, length};
+ghost use Rattle.call.specs.Checks.{number_given};
 ghost use Rattle.frame.specs.Layout.{record_length};
 ghost use Rattle.frame.specs.Digits.{are_digits};
 ghost use Rattle.frame.specs.Reading.{reading_of};
 ghost use Rattle.page.specs.Layout.{cells, sums, most_lines};
 ghost use Rattle.page.specs.Saying.{said_in, Known};
 ghost use Rattle.page.specs.Parts.{one_page};
-ghost use Rattle.page.specs.Joining.{added_to, joined_cells, join_number, join_page, line_number, line_page};
+ghost use Rattle.page.specs.Joining.{joined_cells, join_number, join_page, line_number, line_page};
 ghost use Rattle.page.specs.Steps.{with_added, with_line, with_answered};
 
 use crate::layout::{
     BACKWARD_AT, LINES_AT, LONGEST_AT, MOST_LINES, RUNGS_AT, UNREADABLE_AT, ZEROS_AT,
 };
 use crate::saying::{magnitude, said};
-use frame::reading::{Reading, Record, read_answer, read_digits};
+use frame::reading::{Record, read_answer, read_digits};
 use refusal::refusal::Refusal;
 
-// As much as a cell holds.
-fn added(a: u64, b: u64) -> u64
-    ensures { result ≡ added_to a b }
-{
-    if b <= u64::MAX - a {
-        return a + b;
-    }
-    u64::MAX
-}
-
-fn add(n: u64, page: &mut [u64], at: usize)
-    requires { at < length page.old }
+fn add(n: u64, page: &mut [u64; 58], at: usize)
+    requires { at < cells }
     ensures { page.new ≡ with_added at n page.old }
 {
-    page[at] = added(page[at], n);
+    page[at] = page[at].saturating_add(n);
 }
 
-fn add_answered(r: Record, page: &mut [u64])
-    requires { (length page.old ≡ cells) × (r.longest_sum < sums) }
+fn add_answered(r: Record, page: &mut [u64; 58])
+    requires { r.longest_sum < sums }
     ensures { page.new ≡ with_answered r page.old }
 {
     add(1, page, LONGEST_AT + r.longest_sum as usize);
-    add(r.rungs as u64, page, RUNGS_AT);
-    add(r.backward as u64, page, BACKWARD_AT);
+    add(u64::from(r.rungs), page, RUNGS_AT);
+    add(u64::from(r.backward), page, BACKWARD_AT);
     add(magnitude(r.zeros), page, ZEROS_AT);
 }
 
 // One line more, and one more in another cell.
-fn count_line(page: &mut [u64], at: usize)
-    requires { (length page.old ≡ cells) × (at < cells) }
+fn count_line(page: &mut [u64; 58], at: usize)
+    requires { at < cells }
     ensures { page.new ≡ with_line at page.old }
 {
     add(1, page, LINES_AT);
@@ -55,76 +46,70 @@ fn count_line(page: &mut [u64], at: usize)
 }
 
 // What a line says, added. The number of a line is the place of its cell.
-fn add_said(line: Reading, page: &mut [u64])
-    requires { (length page.old ≡ cells) × Known line }
+fn add_said(line: Option<Record>, page: &mut [u64; 58])
+    requires { Known line }
     ensures { page.new ≡ joined_cells page.old (one_page line) }
 {
     match line {
-        Reading::Readable(r) => {
+        Some(r) => {
             count_line(page, r.number as usize);
             if r.number == 0 {
                 add_answered(r, page);
             }
         }
-        Reading::Unreadable => count_line(page, UNREADABLE_AT),
+        None => count_line(page, UNREADABLE_AT),
     }
 }
 
-fn add_read(reading: Reading, page: &mut [u64]) -> u32
-    requires { length page.old ≡ cells }
-    ensures { (result ≡ join_number page.old (one_page (said_in reading)))
+fn add_read(reading: Option<Record>, page: &mut [u64; 58]) -> Result<(), Refusal>
+    ensures { (number_given result ≡ join_number page.old (one_page (said_in reading)))
         × (page.new ≡ join_page page.old (one_page (said_in reading))) }
 {
     if page[LINES_AT] >= MOST_LINES {
-        return Refusal::Full.number();
+        return Err(Refusal::Full);
     }
     add_said(said(reading), page);
-    0
+    Ok(())
 }
 
-pub fn add_line(page: &mut [u64; 58], line: &[u8]) -> u32
-    ensures { (result ≡ line_number page.old line.now)
+pub fn add_line(page: &mut [u64; 58], line: &[u8]) -> Result<(), Refusal>
+    ensures { (number_given result ≡ line_number page.old line.now)
         × (page.new ≡ line_page page.old line.now) }
 {
     add_read(read_answer(line), page)
 }
 
 // The same of a line that is known to be of digits alone, and long enough.
-pub fn add_digits(page: &mut [u64; 58], line: &[u8]) -> u32
+pub fn add_digits(page: &mut [u64; 58], line: &[u8]) -> Result<(), Refusal>
     requires { (record_length ≤ length line.now) × (are_digits line.now ≡ true) }
-    ensures { (result ≡ line_number page.old line.now)
+    ensures { (number_given result ≡ line_number page.old line.now)
         × (page.new ≡ line_page page.old line.now) }
 {
     add_read(read_digits(line), page)
 }
 
-fn join_cells(into: &mut [u64], from: &[u64])
-    requires { (length into.old ≡ cells) × (length from.now ≡ cells) }
+fn join_cells(into: &mut [u64; 58], from: &[u64; 58])
     ensures { into.new ≡ joined_cells into.old from.now }
 {
-    let mut i = 0;
-    while i < into.len() {
-        into[i] = added(into[i], from[i]);
-        i += 1;
+    for (i, cell) in into.iter_mut().enumerate() {
+        *cell = cell.saturating_add(from[i]);
     }
 }
 
+#[tactic(auto, using(std::proofs::lemmas::Bool::Decides::nat_tests))]
 fn is_room(into: u64, from: u64) -> bool
     ensures { result ≡ leb (into + from) most_lines }
 {
-    if into > MOST_LINES {
-        return false;
-    }
-    from <= MOST_LINES - into
+    into.saturating_add(from) <= MOST_LINES
 }
 
-pub fn join(into: &mut [u64; 58], from: &[u64; 58]) -> u32
-    ensures { (result ≡ join_number into.old from.now)
+pub fn join(into: &mut [u64; 58], from: &[u64; 58]) -> Result<(), Refusal>
+    ensures { (number_given result ≡ join_number into.old from.now)
         × (into.new ≡ join_page into.old from.now) }
 {
     if !is_room(into[LINES_AT], from[LINES_AT]) {
-        return Refusal::Full.number();
+        return Err(Refusal::Full);
     }
     join_cells(into, from);
-    0
+    Ok(())
 }

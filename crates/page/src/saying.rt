@@ -4,41 +4,26 @@ ghost use Rattle.std.specs.Prelude.{◌≡◌, nat_abs};
 ghost use Rattle.page.specs.Saying.{is_known, said_in};
 
 use crate::layout::LONGEST;
-use frame::reading::{Reading, Record};
+use frame::reading::Record;
 use refusal::refusal::is_listed;
 
+#[tactic(auto, using(std::proofs::lemmas::Bool::Decides::nat_tests), unfolding(crate::specs::Saying::is_known))]
 fn is_known(r: Record) -> bool
     ensures { result ≡ is_known r }
 {
-    if r.longest_sum > LONGEST {
-        return false;
-    }
-    if r.number == 0 {
-        return true;
-    }
-    is_listed(r.number)
+    r.longest_sum <= LONGEST && (r.number == 0 || is_listed(r.number))
 }
 
-pub fn said(reading: Reading) -> Reading
+#[tactic(auto, unfolding(crate::specs::Saying::said_in))]
+pub fn said(reading: Option<Record>) -> Option<Record>
     ensures { result ≡ said_in reading }
 {
-    match reading {
-        Reading::Readable(record) => {
-            if is_known(record) {
-                return Reading::Readable(record);
-            }
-            Reading::Unreadable
-        }
-        Reading::Unreadable => Reading::Unreadable,
-    }
+    reading.filter(|r| is_known(*r))
 }
 
 // A count of zeros without its sign.
 pub fn magnitude(zeros: i32) -> u64
     ensures { result ≡ nat_abs zeros }
 {
-    if zeros < 0 {
-        return (-1 - zeros) as u64 + 1;
-    }
-    zeros as u64
+    u64::from(zeros.unsigned_abs())
 }

@@ -110,6 +110,13 @@ module _ (g : Setting) (d : List Float) (n : ℕ) where
         next : (n left : ℕ) → 0 < left → left ≤ n → suc (n - left) ≡ n - (left - 1)
         next n left h l = omega arith
 
+    -- where the entry's two cells are written by a call
+    pub walking-put :
+        (t : Descent) → t ≡ step_of g (left - 1) state → 0 < left → state.stopped ≡ false →
+        (cells : List Float) → cells ≡ set (set out ((left - 1) * 2 + 1) t.above.im) ((left - 1) * 2) t.above.re →
+        Walking g whole d n (left - 1) t cells
+    walking-put t e h s cells f = subst (λ (l : List Float). Walking g whole d n (left - 1) t l) (sym f) (walking-step t e h s)
+
     pub walking-stop : state.stopped ≡ true → whole ≡ at left state w.cells
     unfolding is_stopped
     walking-stop s = w.rest ∙ run-stop stopping (stepping g) left (n - left) (at left state w.cells) s

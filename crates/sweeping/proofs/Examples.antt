@@ -5,13 +5,13 @@ use mathlib.Core.List.{List, [], ◌∷◌, ◌++◌}
 use Prim.Native.Nat.{ℕ}
 use lib.Ieee.{binary64, of_bits, to_bits, of_int, round, size, neg, add, sub, mul, div, eq, le}
 use Rattle.splitting.specs.Lines.{newline}
-use Rattle.call.specs.declared.checks.Verdict.TheVariants.{Admitted}
+use Rattle.call.specs.Checks.{Admitted}
 use Rattle.call.specs.Limits.{normalised_of, are_finite, order_inside, sign_inside, part_inside, size_inside}
 use Rattle.call.specs.Checks.{refused_if, verdict_from, verdict_of}
 use Rattle.frame.specs.Digits.{is_digit, are_digits, worth_of, number_from, number_of, digit_of, spelled_of}
 use Rattle.frame.specs.Asking.{fields_of, framed_of, asking_of, asked_of, asking_line_of}
 use Rattle.sweeping.specs.declared.request.Request.{Request}
-use Rattle.sweeping.specs.declared.request.Requested.TheVariants.{Sought}
+use Rattle.std.proofs.Common.{Some}
 use Rattle.sweeping.specs.Points.{normalised_request, step_of, part_with, fields_with, fields_at, frames_up_to}
 use Rattle.sweeping.specs.Checks.{steps_inside, count_inside, is_asked, frame_has, of_ends, ends_finite, ends_signed, ends_sized, sweep_checks}
 use Rattle.sweeping.specs.Sweep.{verdict_for}
@@ -42,7 +42,7 @@ sought = record {
   steps = 3;
 }
 
-read : requested_of example_request ≡ Sought sought
+read : requested_of example_request ≡ Some sought
 unfolding requested_of sought_in request_from framed_of fields_of are_digits is_digit worth_of number_of number_from spelled_of digit_of
 read = refl
 

@@ -8,26 +8,26 @@ use borrow.Author.Tests.{ne_eqb, leb-true, leb-false}
 use lib.Dec.{leb}
 use lib.ListN.{length, take, length-take}
 use lib.Seq.{take_all}
-use Rattle.sweeping.specs.declared.request.Requested.{Requested}
-use Rattle.sweeping.specs.declared.request.Requested.TheVariants.{Sought, NoRequest}
+use Rattle.std.proofs.Common.{Option, None, Some}
+use Rattle.sweeping.specs.declared.request.Request.{Request}
 use Rattle.sweeping.specs.Line.{request_length, requested_of, swept_by, frames_in, line_swept, line_bytes}
 use Rattle.sweeping.proofs.SweepFacts as sweeps
 
 -- ---- by what was read
-needed-by : (q : Requested) → (swept_by q).needed ≡ length (frames_in q)
+needed-by : (q : Option Request) → (swept_by q).needed ≡ length (frames_in q)
 unfolding swept_by frames_in
-needed-by (Sought r) = sweeps.sweep-needed r
-needed-by NoRequest = refl
+needed-by (Some r) = sweeps.sweep-needed r
+needed-by None = refl
 
-most-by : (q : Requested) → length (frames_in q) ≤ 233472
+most-by : (q : Option Request) → length (frames_in q) ≤ 233472
 unfolding frames_in
-most-by (Sought r) = sweeps.sweep-most r
-most-by NoRequest = omega arith
+most-by (Some r) = sweeps.sweep-most r
+most-by None = omega arith
 
-none-by : (q : Requested) → 0 < (swept_by q).number → frames_in q ≡ []
+none-by : (q : Option Request) → 0 < (swept_by q).number → frames_in q ≡ []
 unfolding swept_by frames_in
-none-by (Sought r) h = sweeps.refused_none r h
-none-by NoRequest h = refl
+none-by (Some r) h = sweeps.refused_none r h
+none-by None h = refl
 
 -- ---- of a line
 pub needed-is : (line : List ℕ) → (line_swept line).needed ≡ length (line_bytes line)
@@ -43,7 +43,7 @@ unfolding line_swept line_bytes
 refused_none line h = none-by (requested_of line) h
 
 -- ---- a line that is longer is none of a request, whatever follows
-other_length : (line : List ℕ) → (length line ≡ request_length → ⊥) → requested_of line ≡ NoRequest
+other_length : (line : List ℕ) → (length line ≡ request_length → ⊥) → requested_of line ≡ None
 unfolding requested_of
 other_length line h = simp (ne_eqb (length line) request_length h)
 

@@ -9,7 +9,7 @@ use Rattle.call.specs.Limits.{order_inside}
 use Rattle.call.specs.Checks.{Check, check, none_applies, numbers_of}
 use Rattle.call.proofs.FirstFacts.{Exactly, is_one_of, Given, given, given-at, none-or-listed}
 use Rattle.frame.specs.declared.asking.Asking.{Asking}
-use Rattle.frame.specs.declared.asking.Parsed.TheVariants.{Asked, Malformed}
+use Rattle.std.proofs.Common.{None, Some}
 use Rattle.frame.specs.Asking.{asked_of}
 use Rattle.sweeping.specs.declared.request.Request.{Request}
 use Rattle.sweeping.specs.Points.{normalised_request, fields_with}
@@ -94,7 +94,7 @@ unfolding swept_of verdict_for
 number-of-sweep q = number_is (normalised_request q) (swept_of q).number (given (sweep_checks (normalised_request q)))
 
 -- ---- the kinds and scalings that a frame has
-by_tests : (s k i : Bool) (a b : Asking) → is_asked (cond s Malformed (cond k (Asked a) (cond i (Asked b) Malformed))) ≡ (not s && (k || i))
+by_tests : (s k i : Bool) (a b : Asking) → is_asked (cond s None (cond k (Some a) (cond i (Some b) None))) ≡ (not s && (k || i))
 unfolding is_asked
 by_tests true k i a b = refl
 by_tests false true i a b = refl

@@ -12,21 +12,19 @@ use Rattle.laws.proofs.Value.{finite-no-nan}
 use Rattle.laws.proofs.Zero.{zero_of, zero_is}
 use Rattle.machine.specs.Small.{nothing}
 use Rattle.splitting.specs.Lines.{newline}
-use Rattle.call.specs.declared.checks.Verdict.{Verdict}
-use Rattle.call.specs.declared.checks.Verdict.TheVariants.{Admitted, Refused}
+use Rattle.call.specs.Checks.{Verdict, Admitted}
 use Rattle.call.specs.Limits.{normalised_of, are_finite, order_inside}
 use Rattle.call.specs.Checks.{verdict_of, none_applies}
 use Rattle.call.proofs.FirstFacts.{none-admitted}
 use Rattle.frame.specs.declared.asking.Fields.{Fields}
-use Rattle.frame.specs.declared.asking.Framed.TheVariants.{Frame}
+use Rattle.std.proofs.Common.{Ok, Err, Some}
 use Rattle.frame.specs.Asking.{framed_of, asked_of, asking_line_of, FieldsFit}
 use Rattle.frame.proofs.AskingInverse.{asking-fits, asking-again}
 use Rattle.frame.proofs.DigitFacts.{both}
 use Rattle.sweeping.specs.declared.request.Request.{Request}
-use Rattle.sweeping.specs.declared.sweep.Swept.{Swept}
 use Rattle.sweeping.specs.Points.{normalised_request, part_with, fields_with, fields_at, frames_up_to}
 use Rattle.sweeping.specs.Checks.{steps_inside, count_inside, is_asked, frame_has, of_ends, ends_finite, ends_signed, ends_sized, sweep_checks}
-use Rattle.sweeping.specs.Sweep.{verdict_for, needed_by, frames_by, swept_of, frames_of}
+use Rattle.sweeping.specs.Sweep.{Swept, verdict_for, needed_by, frames_by, swept_of, frames_of}
 use Rattle.sweeping.specs.ReadBack.{one_of, Taken, alone_with}
 use Rattle.sweeping.proofs.SweepFacts.{admitted-swept, admitted-frames}
 
@@ -53,7 +51,7 @@ module _ (b : ℕ) (h : b < 2 ^ 64) (f : T (finite (of_bits binary64 b))) where
   stays k = stays-if (eq (of_bits binary64 b) nothing) refl k
 
 -- ---- the line of the sweep of one
-module _ (line : List ℕ) (f : Fields) (read : framed_of line ≡ Frame f) (t : Taken f) (x y : Float) where
+module _ (line : List ℕ) (f : Fields) (read : framed_of line ≡ Some f) (t : Taken f) (x y : Float) where
   fit : FieldsFit f
   fit = asking-fits line f read
 
@@ -164,13 +162,13 @@ module _ (r : Request) (x y x' y' : Float) where
 
   by_frames : (v : Verdict) → frames_by v (alone_with r x y) ≡ frames_by v (alone_with r x' y')
   unfolding frames_by alone_with
-  by_frames Admitted = same-frames 1
-  by_frames (Refused refusal) = refl
+  by_frames (Ok admitted) = same-frames 1
+  by_frames (Err refusal) = refl
 
   by-needed : (v : Verdict) → needed_by v (alone_with r x y) ≡ needed_by v (alone_with r x' y')
   unfolding needed_by alone_with
-  by-needed Admitted = refl
-  by-needed (Refused refusal) = refl
+  by-needed (Ok admitted) = refl
+  by-needed (Err refusal) = refl
 
   pub alone-swept : swept_of (alone_with r x y) ≡ swept_of (alone_with r x' y')
   unfolding swept_of

@@ -12,15 +12,13 @@ use lib.Ieee.Fits.{add-fits, cond-fits}
 use Rattle.machine.specs.Small.{nothing}
 use Rattle.splitting.specs.Lines.{newline, lines_of, ended_lines, is_plain, are_plain}
 use Rattle.splitting.proofs.EndedFacts.{lines-ended, ended-lines-append, plain-append}
-use Rattle.call.specs.declared.checks.Verdict.TheVariants.{Admitted}
 use Rattle.call.specs.declared.kind.Kind.TheVariants.{K, I}
 use Rattle.call.specs.Limits.{normalised_of}
-use Rattle.call.specs.Checks.{verdict_of, none_applies}
+use Rattle.call.specs.Checks.{Admitted, verdict_of, none_applies}
 use Rattle.call.proofs.FirstFacts.{admitted-none}
-use Rattle.frame.specs.declared.asking.Framed.{Framed}
-use Rattle.frame.specs.declared.asking.Framed.TheVariants.{Frame}
-use Rattle.frame.specs.declared.asking.Parsed.{Parsed}
-use Rattle.frame.specs.declared.asking.Parsed.TheVariants.{Asked, Malformed}
+use Rattle.std.proofs.Common.{Option, None, Some}
+use Rattle.frame.specs.declared.asking.Fields.{Fields}
+use Rattle.frame.specs.declared.asking.Asking.{Asking}
 use Rattle.frame.specs.Digits.{is_digit, are_digits}
 use Rattle.frame.specs.Asking.{framed_of, asking_of, asked_of, asked_in, parsed_of, asking_line_of, FieldsFit}
 use Rattle.frame.proofs.DigitFacts.{both}
@@ -89,20 +87,20 @@ module _ (r : Request) (has : frame_has r ≡ true) (few : count_inside r.count 
       im = to_bits-lt binary64 (im_at r j) im-fits;
     }
 
-    framed : framed_of (asking_line_of (fields_at r j)) ≡ Frame (fields_at r j)
+    framed : framed_of (asking_line_of (fields_at r j)) ≡ Some (fields_at r j)
     framed = asking-read (fields_at r j) fields_fit
 
-    by_kind : (a b : Bool) → eqb r.kind 1 ≡ a → (a || b) ≡ true → cond a (Asked (asking_of K (fields_at r j))) (cond b (Asked (asking_of I (fields_at r j))) Malformed) ≡ Asked (asking_at r j)
+    by_kind : (a b : Bool) → eqb r.kind 1 ≡ a → (a || b) ≡ true → cond a (Some (asking_of K (fields_at r j))) (cond b (Some (asking_of I (fields_at r j))) None) ≡ Some (asking_at r j)
     unfolding asking_of asking_at fields_at fields_with
     by_kind true b e f = simp (e, of_bits-to_bits binary64 r.v values.v, of_bits-to_bits binary64 (re_at r j) re-fits, of_bits-to_bits binary64 (im_at r j) im-fits)
     by_kind false true e f = simp (e, of_bits-to_bits binary64 r.v values.v, of_bits-to_bits binary64 (re_at r j) re-fits, of_bits-to_bits binary64 (im_at r j) im-fits)
     by_kind false false e f = absurd (let z : ◌≡◌ {A = ℕ} 0 1 = cc in omega arith)
 
-    asked : asked_of (fields_at r j) ≡ Asked (asking_at r j)
+    asked : asked_of (fields_at r j) ≡ Some (asking_at r j)
     unfolding asked_of fields_at fields_with
     asked = rw plain-scaling (by_kind (eqb r.kind 1) (eqb r.kind 2) refl tests.1)
 
-    parsed : parsed_of (asking_line_of (fields_at r j)) ≡ Asked (asking_at r j)
+    parsed : parsed_of (asking_line_of (fields_at r j)) ≡ Some (asking_at r j)
     unfolding parsed_of asked_in
     parsed = ap asked_in framed ∙ asked
 
@@ -130,8 +128,8 @@ module _ (r : Request) (has : frame_has r ≡ true) (few : count_inside r.count 
   fields_back (suc j) =
       let l = asking_line_of (fields_at r j) in
       map-append framed_of (lines_up_to r j) (l ∷ [])
-      ∙ ap (λ (x : List Framed). x ++ (framed_of l ∷ [])) (fields_back j)
-      ∙ ap (λ (x : Framed). fields_up_to r j ++ (x ∷ [])) (framed j)
+      ∙ ap (λ (x : List (Option Fields)). x ++ (framed_of l ∷ [])) (fields_back j)
+      ∙ ap (λ (x : Option Fields). fields_up_to r j ++ (x ∷ [])) (framed j)
 
   askings-back : (j : ℕ) → map parsed_of (lines_up_to r j) ≡ askings_up_to r j
   unfolding lines_up_to askings_up_to
@@ -139,8 +137,8 @@ module _ (r : Request) (has : frame_has r ≡ true) (few : count_inside r.count 
   askings-back (suc j) =
       let l = asking_line_of (fields_at r j) in
       map-append parsed_of (lines_up_to r j) (l ∷ [])
-      ∙ ap (λ (x : List Parsed). x ++ (parsed_of l ∷ [])) (askings-back j)
-      ∙ ap (λ (x : Parsed). askings_up_to r j ++ (x ∷ [])) (parsed j)
+      ∙ ap (λ (x : List (Option Asking)). x ++ (parsed_of l ∷ [])) (askings-back j)
+      ∙ ap (λ (x : Option Asking). askings_up_to r j ++ (x ∷ [])) (parsed j)
 
 -- ---- of an accepted sweep
 values-kept : (q : Request) → AreValues q → AreValues (normalised_request q)

@@ -10,18 +10,16 @@ use lib.Ieee.Bits.{is_true}
 use lib.ListN.{length}
 use Rattle.refusal.specs.Number.{number_of}
 use Rattle.refusal.specs.declared.refusal.Refusal.{Refusal}
-use Rattle.call.specs.declared.checks.Verdict.{Verdict}
-use Rattle.call.specs.declared.checks.Verdict.TheVariants.{Admitted, Refused}
-use Rattle.call.specs.Checks.{verdict_of, number_given, none_applies}
+use Rattle.std.proofs.Common.{Ok, Err}
+use Rattle.call.specs.Checks.{Verdict, Admitted, Refused, verdict_of, number_given, none_applies}
 use Rattle.call.proofs.FirstFacts.{given, admitted-none, none-admitted}
 use Rattle.frame.specs.Over.{offered}
 use Rattle.frame.proofs.OverFacts.{over_none, offered-room}
 use Rattle.frame.proofs.DigitFacts.{both}
 use Rattle.sweeping.specs.declared.request.Request.{Request}
-use Rattle.sweeping.specs.declared.sweep.Swept.{Swept}
 use Rattle.sweeping.specs.Points.{normalised_request, frames_up_to}
 use Rattle.sweeping.specs.Checks.{steps_inside, sweep_checks}
-use Rattle.sweeping.specs.Sweep.{line_length, verdict_for, needed_by, frames_by, swept_of, frames_of}
+use Rattle.sweeping.specs.Sweep.{Swept, swept_in, line_length, verdict_for, needed_by, frames_by, swept_of, frames_of}
 use Rattle.sweeping.proofs.PointFacts.{frames-length}
 
 -- ---- the steps of an admitted sweep
@@ -60,30 +58,26 @@ unfolding verdict_for
 verdict-is q r v w e f g = ap (λ (x : Request). verdict_of (sweep_checks x)) (sym e) ∙ sym f ∙ g
 
 pub admitted-outcome :
-    (q r : Request) (s : Swept) (o d : List ℕ) → r ≡ normalised_request q → verdict_for q ≡ Admitted → s ≡ record { number = 0; needed = r.steps * line_length } →
-    o ≡ offered (frames_up_to r r.steps) d → (s ≡ swept_of q) × (o ≡ offered (frames_of q) d)
+    (q r : Request) (n : ℕ) (o d : List ℕ) → r ≡ normalised_request q → verdict_for q ≡ Admitted → n ≡ r.steps * line_length →
+    o ≡ offered (frames_up_to r r.steps) d → (swept_in (Ok n) ≡ swept_of q) × (o ≡ offered (frames_of q) d)
 unfolding normalised_request
-admitted-outcome q r s o d e v f g = (
-  f ∙ ap (λ (x : Request). record { number = 0; needed = x.steps * line_length }) e ∙ sym (admitted-swept q v),
+admitted-outcome q r n o d e v f g = (
+  ap (λ (k : ℕ). swept_in (Ok k)) (f ∙ ap (λ (x : Request). x.steps * line_length) e) ∙ sym (admitted-swept q v),
   g ∙ ap (λ (x : Request). offered (frames_up_to x x.steps) d) e ∙ ap (λ (l : List ℕ). offered l d) (sym (admitted-frames q v)),
 )
 
-pub refused-outcome :
-    (q : Request) (x : Refusal) (n : ℕ) (d : List ℕ) → verdict_for q ≡ Refused x → n ≡ number_of x → (record { number = n; needed = 0 } ≡ swept_of q) × (d ≡ offered (frames_of q) d)
-refused-outcome q x n d v e = (
-  ap (λ (k : ℕ). record { number = k; needed = 0 }) e ∙ sym (refused-swept q x v),
-  offered-nothing d ∙ ap (λ (l : List ℕ). offered l d) (sym (refused-frames q x v)),
-)
+pub refused-outcome : (q : Request) (x : Refusal) (d : List ℕ) → verdict_for q ≡ Refused x → (swept_in (Err x) ≡ swept_of q) × (d ≡ offered (frames_of q) d)
+refused-outcome q x d v = (sym (refused-swept q x v), offered-nothing d ∙ ap (λ (l : List ℕ). offered l d) (sym (refused-frames q x v)))
 
 -- ---- what is needed is what is written, at most 4,096 lines; a refusal has nothing
 module _ (q : Request) where
   by-verdict : (v : Verdict) → verdict_for q ≡ v → ((swept_of q).needed ≡ length (frames_of q)) × (length (frames_of q) ≤ 233472)
   unfolding verdict_for normalised_request
-  by-verdict Admitted e =
+  by-verdict (Ok admitted) e =
       let n : length (frames_of q) ≡ q.steps * line_length = ap length (admitted-frames q e) ∙ frames-length (normalised_request q) q.steps in
       let s = admitted-steps (normalised_request q) e in
       (ap (λ (s : Swept). s.needed) (admitted-swept q e) ∙ sym n, omega (arith, n, s.1))
-  by-verdict (Refused x) e =
+  by-verdict (Err x) e =
       let n : length (frames_of q) ≡ 0 = ap length (refused-frames q x e) in
       (ap (λ (s : Swept). s.needed) (refused-swept q x e) ∙ sym n, omega (arith, n))
 
@@ -94,8 +88,8 @@ module _ (q : Request) where
   sweep-most = (by-verdict (verdict_for q) refl).1
 
   none-if : (v : Verdict) → verdict_for q ≡ v → 0 < (swept_of q).number → frames_of q ≡ []
-  none-if Admitted e h = absurd (let z : (swept_of q).number ≡ 0 = ap (λ (s : Swept). s.number) (admitted-swept q e) in omega (arith, z, h))
-  none-if (Refused x) e h = refused-frames q x e
+  none-if (Ok admitted) e h = absurd (let z : (swept_of q).number ≡ 0 = ap (λ (s : Swept). s.number) (admitted-swept q e) in omega (arith, z, h))
+  none-if (Err x) e h = refused-frames q x e
 
   pub refused_none : 0 < (swept_of q).number → frames_of q ≡ []
   refused_none h = none-if (verdict_for q) refl h

@@ -1,10 +1,9 @@
 -- The checks of a sweep, in the order in which they are made: the one home of that order. Definitions only.
-use Rattle.std.specs.Prelude.{Bool, true, false, not, ◌&&◌, ◌||◌, List, [], ◌∷◌, ℕ, ltb, leb, eqb}
+use Rattle.std.specs.Prelude.{Bool, true, false, not, ◌&&◌, ◌||◌, List, [], ◌∷◌, ℕ, ltb, leb, eqb, Option, None, Some}
 use Rattle.refusal.specs.declared.refusal.Refusal.TheVariants as refusals
 use Rattle.call.specs.Limits.{are_finite, order_inside, sign_inside, size_inside}
 use Rattle.call.specs.Checks.{Check, check}
-use Rattle.frame.specs.declared.asking.Parsed.{Parsed}
-use Rattle.frame.specs.declared.asking.Parsed.TheVariants.{Asked, Malformed}
+use Rattle.frame.specs.declared.asking.Asking.{Asking}
 use Rattle.frame.specs.Asking.{asked_of}
 use Rattle.sweeping.specs.declared.request.Request.{Request}
 use Rattle.sweeping.specs.Points.{fields_with}
@@ -16,9 +15,9 @@ unfoldable pub count_inside : ℕ → Bool
 count_inside count = ltb 0 count && leb count 512
 
 -- whether a frame has this kind and this scaling: the reader's own rule
-unfoldable pub is_asked : Parsed → Bool
-is_asked (Asked a) = true
-is_asked Malformed = false
+unfoldable pub is_asked : Option Asking → Bool
+is_asked (Some a) = true
+is_asked None = false
 
 unfoldable pub frame_has : Request → Bool
 frame_has r = is_asked (asked_of (fields_with r r.first_re r.first_im))

@@ -1,5 +1,5 @@
 -- What is read back from the written lines: the fields of each point's frame, and what they ask for. Definitions only.
-use Rattle.std.specs.Prelude.{◌≡◌, true, cond, List, [], ◌∷◌, ◌++◌, ℕ, zero, suc, T, eqb, Float}
+use Rattle.std.specs.Prelude.{◌≡◌, true, cond, List, [], ◌∷◌, ◌++◌, ℕ, zero, suc, T, eqb, Float, Option, Some}
 use Rattle.std.specs.Float.{binary64}
 use Rattle.std.specs.Float.Ieee.{fits, of_bits}
 use Rattle.call.specs.declared.kind.Kind.{Kind}
@@ -7,10 +7,6 @@ use Rattle.call.specs.declared.kind.Kind.TheVariants.{K, I}
 use Rattle.call.specs.Limits.{are_finite, order_inside, sign_inside, size_inside}
 use Rattle.frame.specs.declared.asking.Asking.{Asking}
 use Rattle.frame.specs.declared.asking.Fields.{Fields}
-use Rattle.frame.specs.declared.asking.Framed.{Framed}
-use Rattle.frame.specs.declared.asking.Framed.TheVariants.{Frame}
-use Rattle.frame.specs.declared.asking.Parsed.{Parsed}
-use Rattle.frame.specs.declared.asking.Parsed.TheVariants.{Asked}
 use Rattle.frame.specs.Asking.{asked_of, asking_line_of}
 use Rattle.sweeping.specs.declared.request.Request.{Request}
 use Rattle.sweeping.specs.Points.{re_at, im_at, fields_at}
@@ -36,13 +32,13 @@ unfoldable pub lines_up_to : Request → ℕ → List (List ℕ)
 lines_up_to r zero = []
 lines_up_to r (suc j) = lines_up_to r j ++ (asking_line_of (fields_at r j) ∷ [])
 
-unfoldable pub fields_up_to : Request → ℕ → List Framed
+unfoldable pub fields_up_to : Request → ℕ → List (Option Fields)
 fields_up_to r zero = []
-fields_up_to r (suc j) = fields_up_to r j ++ (Frame (fields_at r j) ∷ [])
+fields_up_to r (suc j) = fields_up_to r j ++ (Some (fields_at r j) ∷ [])
 
-unfoldable pub askings_up_to : Request → ℕ → List Parsed
+unfoldable pub askings_up_to : Request → ℕ → List (Option Asking)
 askings_up_to r zero = []
-askings_up_to r (suc j) = askings_up_to r j ++ (Asked (asking_at r j) ∷ [])
+askings_up_to r (suc j) = askings_up_to r j ++ (Some (asking_at r j) ∷ [])
 
 -- the order and the first pair are values of f64, as whatever is handed over is
 pub record AreValues (r : Request) : Type 0 where

@@ -2,26 +2,19 @@
 // From docs/SCOPE.md, The sweep. Promised for every line: line_swept and line_bytes of specs/Line.antt.
 ghost use Rattle.std.specs.Prelude.{◌≡◌};
 ghost use Rattle.frame.specs.Over.{offered};
-ghost use Rattle.sweeping.specs.Line.{swept_by, frames_in, line_swept, line_bytes};
+ghost use Rattle.sweeping.specs.Sweep.{swept_in};
+ghost use Rattle.sweeping.specs.Line.{line_swept, line_bytes};
 
-use crate::request::{Requested, read_request};
-use crate::sweep::{Swept, sweep};
+use crate::request::read_request;
+use crate::sweep::sweep;
 use refusal::refusal::Refusal;
 
-fn sweep_requested(requested: Requested, out: &mut [u8]) -> Swept
-    ensures { (result ≡ swept_by requested) × (out.new ≡ offered (frames_in requested) out.old) }
+// How many bytes the frames are, or the refusal.
+pub fn sweep_line(line: &[u8], out: &mut [u8]) -> Result<u32, Refusal>
+    ensures { (swept_in result ≡ line_swept line.now) × (out.new ≡ offered (line_bytes line.now) out.old) }
 {
-    match requested {
-        Requested::Sought(request) => sweep(request, out),
-        Requested::NoRequest => Swept {
-            number: Refusal::Malformed.number(),
-            needed: 0,
-        },
+    match read_request(line) {
+        Some(request) => sweep(request, out),
+        None => Err(Refusal::Malformed),
     }
-}
-
-pub fn sweep_line(line: &[u8], out: &mut [u8]) -> Swept
-    ensures { (result ≡ line_swept line.now) × (out.new ≡ offered (line_bytes line.now) out.old) }
-{
-    sweep_requested(read_request(line), out)
 }

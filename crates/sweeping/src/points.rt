@@ -51,13 +51,11 @@ pub fn write_frames(r: Request, out: &mut [u8])
     let step_re = step(r.first_re, r.last_re, r.steps);
     let step_im = step(r.first_im, r.last_im, r.steps);
     let mut at = 0;
-    let mut j: u32 = 0;
-    while j < r.steps {
+    for j in 0..r.steps {
         let re = part(r.first_re, step_re, r.steps, j);
         let im = part(r.first_im, step_im, r.steps, j);
         write_asking(fields_with(r, re, im), out, at);
         out[at + ASKING_LENGTH] = NEWLINE;
         at += LINE_LENGTH;
-        j += 1;
     }
 }

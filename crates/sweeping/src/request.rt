@@ -3,10 +3,10 @@
 ghost use Rattle.std.specs.Prelude.{◌≡◌, true, length};
 ghost use Rattle.frame.specs.Digits.{are_digits};
 ghost use Rattle.sweeping.specs.Points.{normalised_request};
-ghost use Rattle.sweeping.specs.Line.{rest_length, request_from, sought_in, requested_of};
+ghost use Rattle.sweeping.specs.Line.{rest_length, request_from, requested_of};
 
 use call::limits::normalised;
-use frame::asking::{Fields, Framed, read_asking};
+use frame::asking::{Fields, read_asking};
 use frame::digits::{are_digits, number};
 use frame::layout::ASKING_LENGTH;
 use machine::bits::of_pattern;
@@ -33,12 +33,6 @@ pub struct Request {
     pub last_re: f64,
     pub last_im: f64,
     pub steps: u32,
-}
-
-#[derive(Clone, Copy)]
-pub enum Requested {
-    Sought(Request),
-    NoRequest,
 }
 
 pub fn normalised_request(r: Request) -> Request
@@ -74,28 +68,18 @@ fn request_from(f: Fields, rest: &[u8]) -> Request
     }
 }
 
-// The frame of the first point, and what stands behind it.
-fn sought(framed: Framed, rest: &[u8]) -> Requested
-    requires { length rest.now ≡ rest_length }
-    ensures { result ≡ sought_in framed rest.now }
-{
-    match framed {
-        Framed::Frame(f) => {
-            if are_digits(rest) {
-                return Requested::Sought(request_from(f, rest));
-            }
-            Requested::NoRequest
-        }
-        Framed::NoFrame => Requested::NoRequest,
-    }
-}
-
-pub fn read_request(line: &[u8]) -> Requested
+// The frame of the first point, and what stands behind it. None of any other line.
+#[tactic(auto, using(std::proofs::lemmas::Bool::Decides::nat_tests), unfolding(crate::specs::Line::requested_of, crate::specs::Line::sought_in))]
+pub fn read_request(line: &[u8]) -> Option<Request>
     ensures { result ≡ requested_of line.now }
 {
     if line.len() != REQUEST_LENGTH {
-        return Requested::NoRequest;
+        return None;
     }
-    let framed = read_asking(&line[0..ASKING_LENGTH]);
-    sought(framed, &line[ASKING_LENGTH..REQUEST_LENGTH])
+    let (frame, rest) = line.split_at(ASKING_LENGTH);
+    let f = read_asking(frame)?;
+    if !are_digits(rest) {
+        return None;
+    }
+    Some(request_from(f, rest))
 }

@@ -3,47 +3,31 @@
 ghost use Rattle.std.specs.Prelude.{◌≡◌, ◌*◌, ◌≤◌};
 ghost use Rattle.frame.specs.Over.{offered};
 ghost use Rattle.sweeping.specs.Points.{frames_up_to};
-ghost use Rattle.sweeping.specs.Sweep.{line_length, swept_of, frames_of};
+ghost use Rattle.sweeping.specs.Sweep.{line_length, swept_in, swept_of, frames_of};
 
 use crate::checks::sweep_verdict;
 use crate::points::{LINE_LENGTH, write_frames};
 use crate::request::{Request, normalised_request};
-use call::checks::Verdict;
+use refusal::refusal::Refusal;
 
-// The refusal's number or 0, and how many bytes the frames are.
-#[derive(Clone, Copy)]
-pub struct Swept {
-    pub number: u32,
-    pub needed: u32,
-}
-
-fn offer_frames(r: Request, out: &mut [u8]) -> Swept
+// How many bytes the frames are.
+fn offer_frames(r: Request, out: &mut [u8]) -> u32
     requires { (1 ≤ r.steps) × (r.steps ≤ 4096) }
-    ensures { (result ≡ record { number = 0; needed = r.steps * line_length })
+    ensures { (result ≡ r.steps * line_length)
         × (out.new ≡ offered (frames_up_to r r.steps) out.old) }
 {
     let needed = r.steps as usize * LINE_LENGTH;
-    let swept = Swept {
-        number: 0,
-        needed: needed as u32,
-    };
-    if out.len() < needed {
-        return swept;
+    if needed <= out.len() {
+        write_frames(r, out);
     }
-    write_frames(r, out);
-    swept
+    needed as u32
 }
 
-pub fn sweep(request: Request, out: &mut [u8]) -> Swept
-    ensures { (result ≡ swept_of request) × (out.new ≡ offered (frames_of request) out.old) }
+// How many bytes the frames are, or the refusal.
+pub fn sweep(request: Request, out: &mut [u8]) -> Result<u32, Refusal>
+    ensures { (swept_in result ≡ swept_of request) × (out.new ≡ offered (frames_of request) out.old) }
 {
     let r = normalised_request(request);
-    let verdict = sweep_verdict(r);
-    match verdict {
-        Verdict::Admitted => offer_frames(r, out),
-        Verdict::Refused(refusal) => Swept {
-            number: refusal.number(),
-            needed: 0,
-        },
-    }
+    sweep_verdict(r)?;
+    Ok(offer_frames(r, out))
 }

@@ -10,22 +10,18 @@ use Rattle.frame.proofs.writing.write_record.Goals as goal
 
 pub returns : goal.returns
 returns c =
-    let c5 = c in
-    let c4 = c5 in
-    let c3 = c4 in
-    let c2 = c3 in
-    let c1 = c2 in
-    let a = c1.args in
-    let fits : SFits w32 a.answer.zeros = search rules in
-    let back = to_z-of_z {w = w32} {z = a.answer.zeros} fits in
+    let a = c.args in
+    let s = c.said-number.ensures in
+    let fits : SFits w32 c.said-number.result.1.zeros = search rules in
+    let back = to_z-of_z {w = w32} {z = c.said-number.result.1.zeros} fits in
     record-written a.answer a.out.now _ _ _ _ _ _ _ _ _ _
-    c1.wide.ensures
-    (c2.twos_complement.ensures ∙ ap twos_complement back)
-    c3.wide-2.ensures
-    c4.wide-3.ensures
-    c5.wide-4.ensures
-    c1.spell.ensures
-    c2.spell-2.ensures
-    c3.spell-3.ensures
-    c4.spell-4.ensures
-    c5.spell-5.ensures
+    (c.from.ensures ∙ s.number)
+    (c.twos_complement.ensures ∙ ap twos_complement (back ∙ s.zeros))
+    (c.from-2.ensures ∙ s.longest)
+    (c.from-3.ensures ∙ s.rungs)
+    (c.from-4.ensures ∙ s.backward)
+    c.spell.ensures
+    c.spell-2.ensures
+    c.spell-3.ensures
+    c.spell-4.ensures
+    c.spell-5.ensures

@@ -13,15 +13,10 @@ use Rattle.page.proofs.adding.add_answered.Goals as goal
 pub returns : goal.returns
 unfolding with_answered
 returns c =
-    let s4 = c in
-    let m = s4 in
-    let s3 = m in
-    let s2 = s3 in
-    let s1 = s2 in
-    let r = s1.args.r in
+    let r = c.args.r in
     let fits : SFits w32 r.zeros = search rules in
     let back = to_z-of_z {w = w32} {z = r.zeros} fits in
-    let e1 = s1.add.ensures in
-    let e2 = s2.add-2.ensures ∙ ap (with_added rungs_at r.rungs) e1 in
-    let e3 = s3.add-3.ensures ∙ ap (with_added backward_at r.backward) e2 in
-    s4.add-4.ensures ∙ ap (λ (n : ℕ). with_added zeros_at n s3.add-3.new.page) (m.magnitude.ensures ∙ ap nat_abs back) ∙ ap (with_added zeros_at (nat_abs r.zeros)) e3
+    let e1 = c.add.ensures in
+    let e2 = c.add-2.ensures ∙ ap (λ (n : ℕ). with_added rungs_at n c.add.new.page) c.from.ensures ∙ ap (with_added rungs_at r.rungs) e1 in
+    let e3 = c.add-3.ensures ∙ ap (λ (n : ℕ). with_added backward_at n c.add-2.new.page) c.from-2.ensures ∙ ap (with_added backward_at r.backward) e2 in
+    c.add-4.ensures ∙ ap (λ (n : ℕ). with_added zeros_at n c.add-3.new.page) (c.magnitude.ensures ∙ ap nat_abs back) ∙ ap (with_added zeros_at (nat_abs r.zeros)) e3

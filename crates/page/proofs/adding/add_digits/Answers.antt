@@ -1,6 +1,7 @@
 -- `page::adding::add_digits` meets its contract: the line read, and what it says added. Assumes nothing.
+use Rattle.frame.specs.declared.reading.Record.{Record}
+use Rattle.std.proofs.Common.{Option}
 use mathlib.Core.Path.{sym, ap, ◌∙◌}
-use Rattle.frame.specs.declared.reading.Reading.{Reading}
 use Rattle.page.specs.Saying.{said_in, said_by}
 use Rattle.page.specs.Parts.{one_page}
 use Rattle.page.specs.Joining.{join_number, join_page}
@@ -13,6 +14,6 @@ returns c =
     let a = c.args in
     let page = a.page.now in
     let read = c.read_digits.ensures in (
-      c.add_read.ensures.0 ∙ ap (λ (x : Reading). join_number page (one_page (said_in x))) read ∙ sym (line-number page a.line.now),
-      c.add_read.ensures.1 ∙ ap (λ (x : Reading). join_page page (one_page (said_in x))) read ∙ sym (line-page page a.line.now),
+      c.add_read.ensures.0 ∙ ap (λ (x : Option Record). join_number page (one_page (said_in x))) read ∙ sym (line-number page a.line.now),
+      c.add_read.ensures.1 ∙ ap (λ (x : Option Record). join_page page (one_page (said_in x))) read ∙ sym (line-page page a.line.now),
     )

@@ -5,7 +5,4 @@ use Rattle.page.proofs.adding.count_line.Goals as goal
 
 pub returns : goal.returns
 unfolding with_line
-returns c =
-    let s = c in
-    let f = s in
-    s.add-2.ensures ∙ ap (with_added f.args.at 1) f.add.ensures
+returns c = c.add-2.ensures ∙ ap (with_added c.args.at 1) c.add.ensures

@@ -1,5 +1,4 @@
-use Prim.Native.Nat.{◌-◌}
-use lib.ListN.{length, get_or}
+use lib.ListN.{get_or}
 use Rattle.laws.proofs.Seam.{Seam}
 use Rattle.page.specs.Parts.{up_to}
 use Rattle.page.specs.Joining.{added_to}
@@ -7,6 +6,3 @@ use Rattle.page.proofs.adding.join_cells.Given as goal
 
 abbrev pub invariant-loop-i : goal.invariant-loop-i
 invariant-loop-i l = Seam l.initial.into (up_to l.i (λ k. added_to (get_or l.initial.into k 0) (get_or l.from k 0))) l.i l.into
-
-abbrev pub decreases-loop-i : goal.decreases-loop-i
-decreases-loop-i l = length l.initial.into - l.i

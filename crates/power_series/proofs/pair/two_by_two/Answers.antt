@@ -5,13 +5,13 @@ use mathlib.Core.List.{List}
 use Prim.Native.Nat.{ℕ, ◌+◌, ◌-◌, ◌*◌, ◌/◌, ◌%◌, ◌≤◌, ◌<◌}
 use native.Mathlib.Omega.{arith}
 use lib.Ieee.{Float}
-use lib.ListN.{length, length-set}
+use lib.ListN.{length}
 use Rattle.series_step.specs.declared.setting.Setting.{Setting}
 use Rattle.series_step.specs.declared.descent.Descent.{Descent}
 use Rattle.series_step.specs.Recurred.{recurred_of}
 use Rattle.power_series.specs.Visit.{Walk}
 use Rattle.power_series.specs.shapes.Pair.{Settled}
-use Rattle.power_series.proofs.WalkFacts.{Walking, walking-from, walking-step, walking-end, walking-standing, walking-cells}
+use Rattle.power_series.proofs.WalkFacts.{Walking, walking-from, walking-put, walking-end, walking-standing, walking-cells}
 use Rattle.power_series.proofs.PairFacts.{settled-step, settled-next}
 use Rattle.power_series.proofs.pair.two_by_two.Goals as goal
 
@@ -46,27 +46,6 @@ rung-s-requires c =
     let f = few c.requires.0 c.requires.1 c.loop-left.invariant.1 c.loop-left.invariant.2 in
     (omega (arith, f), omega (arith, f), c.loop-left.invariant.1.off)
 
-pub overflow_mul-out : goal.overflow_mul-out
-overflow_mul-out c = omega (arith, few c.requires.0 c.requires.1 c.loop-left.invariant.1 c.loop-left.invariant.2)
-
-pub overflow_add-out : goal.overflow_add-out
-overflow_add-out c = omega (arith, few c.requires.0 c.requires.1 c.loop-left.invariant.1 c.loop-left.invariant.2)
-
-pub offset_bounds-out-left : goal.offset_bounds-out-left
-offset_bounds-out-left c = omega (arith, few c.requires.0 c.requires.1 c.loop-left.invariant.1 c.loop-left.invariant.2)
-
-pub bounds-out-left : goal.bounds-out-left
-bounds-out-left c = omega (arith, few c.requires.0 c.requires.1 c.loop-left.invariant.1 c.loop-left.invariant.2)
-
-pub overflow_mul-out-in-loop-left : goal.overflow_mul-out-in-loop-left
-overflow_mul-out-in-loop-left c = omega (arith, few c.requires.0 c.requires.1 c.loop-left.invariant.1 c.loop-left.invariant.2)
-
-pub offset_bounds-out-left-in-loop-left : goal.offset_bounds-out-left-in-loop-left
-offset_bounds-out-left-in-loop-left c = omega (arith, few c.requires.0 c.requires.1 c.loop-left.invariant.1 c.loop-left.invariant.2)
-
-pub bounds-out-left-in-loop-left : goal.bounds-out-left-in-loop-left
-bounds-out-left-in-loop-left c = let f = few c.requires.0 c.requires.1 c.loop-left.invariant.1 c.loop-left.invariant.2 in simp length-set (omega (arith, f))
-
 pub overflow_sub-left-in-loop-left : goal.overflow_sub-left-in-loop-left
 overflow_sub-left-in-loop-left c = omega arith
 
@@ -82,26 +61,11 @@ rung-state-requires c =
     let rungs = t.rungs in
     (omega (arith, few c.requires.0 c.requires.1 c.loop-left.invariant.1 c.loop-left.invariant.2), omega (arith, s.requires, rungs), t.off)
 
-pub overflow_mul-out-in-loop-left-2 : goal.overflow_mul-out-in-loop-left-2
-overflow_mul-out-in-loop-left-2 c = omega (arith, few c.requires.0 c.requires.1 c.loop-left.invariant.1 c.loop-left.invariant.2)
+pub put-requires : goal.put-requires
+put-requires c = omega (arith, few c.requires.0 c.requires.1 c.loop-left.invariant.1 c.loop-left.invariant.2)
 
-pub overflow_add-out-in-loop-left : goal.overflow_add-out-in-loop-left
-overflow_add-out-in-loop-left c = omega (arith, few c.requires.0 c.requires.1 c.loop-left.invariant.1 c.loop-left.invariant.2)
-
-pub offset_bounds-out-left-in-loop-left-2 : goal.offset_bounds-out-left-in-loop-left-2
-offset_bounds-out-left-in-loop-left-2 c = omega (arith, few c.requires.0 c.requires.1 c.loop-left.invariant.1 c.loop-left.invariant.2)
-
-pub bounds-out-left-in-loop-left-2 : goal.bounds-out-left-in-loop-left-2
-bounds-out-left-in-loop-left-2 c = let f = few c.requires.0 c.requires.1 c.loop-left.invariant.1 c.loop-left.invariant.2 in simp length-set (omega (arith, f))
-
-pub overflow_mul-out-in-loop-left-3 : goal.overflow_mul-out-in-loop-left-3
-overflow_mul-out-in-loop-left-3 c = omega (arith, few c.requires.0 c.requires.1 c.loop-left.invariant.1 c.loop-left.invariant.2)
-
-pub offset_bounds-out-left-in-loop-left-3 : goal.offset_bounds-out-left-in-loop-left-3
-offset_bounds-out-left-in-loop-left-3 c = omega (arith, few c.requires.0 c.requires.1 c.loop-left.invariant.1 c.loop-left.invariant.2)
-
-pub bounds-out-left-in-loop-left-3 : goal.bounds-out-left-in-loop-left-3
-bounds-out-left-in-loop-left-3 c = let f = few c.requires.0 c.requires.1 c.loop-left.invariant.1 c.loop-left.invariant.2 in simp length-set (omega (arith, f))
+pub put-requires-in-loop-left : goal.put-requires-in-loop-left
+put-requires-in-loop-left c = omega (arith, few c.requires.0 c.requires.1 c.loop-left.invariant.1 c.loop-left.invariant.2, c.put.auto.out)
 
 pub loop-left-smaller : goal.loop-left-smaller
 loop-left-smaller c = omega arith
@@ -117,8 +81,8 @@ loop-left-preserved c =
     let more : 0 < l.left = omega arith in
     let most : 0 < l.left - 1 = omega arith in
     let first =
-    walking-step _ _ _ l.invariant.2 a.result (a.ensures ∙ sym (settled-step _ (l.left - 1) l.state l.invariant.1.seeded)) more l.invariant.1.goes in
-    let second = walking-step _ _ _ first b.result (b.ensures ∙ sym (settled-step _ (l.left - 1 - 1) a.result t.seeded)) most t.goes in
+    walking-put _ _ _ l.invariant.2 a.result (a.ensures ∙ sym (settled-step _ (l.left - 1) l.state l.invariant.1.seeded)) more l.invariant.1.goes _ d.put.ensures in
+    let second = walking-put _ _ _ first b.result (b.ensures ∙ sym (settled-step _ (l.left - 1 - 1) a.result t.seeded)) most t.goes _ c.put-in-loop-left.ensures in
     (omega arith, subst (λ (q : Descent). Settled n (l.left - 1 - 1) q) (sym b.ensures) (settled-next _ (l.left - 1 - 1) a.result t most), second)
 
 pub shape_of-out : goal.shape_of-out

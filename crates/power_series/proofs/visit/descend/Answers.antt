@@ -2,8 +2,9 @@
 -- as the whole run does. Assumes nothing.
 use mathlib.Core.Path.{◌≡◌}
 use native.Mathlib.Omega.{arith}
-use lib.ListN.{length, length-set}
-use Rattle.power_series.proofs.WalkFacts.{walking_start, walking-step, walking-stop, walking-end, walking-standing, walking-cells}
+use Prim.Native.Nat.{◌/◌, ◌≤◌}
+use lib.ListN.{length}
+use Rattle.power_series.proofs.WalkFacts.{walking_start, walking-put, walking-stop, walking-end, walking-standing, walking-cells}
 use Rattle.power_series.proofs.visit.descend.Goals as goal
 
 pub loop-left-init : goal.loop-left-init
@@ -27,32 +28,12 @@ overflow_cast-left c = omega arith
 pub step-state-requires : goal.step-state-requires
 step-state-requires c = omega arith
 
-pub overflow_mul-out : goal.overflow_mul-out
-overflow_mul-out c = omega arith
-
-pub overflow_add-out : goal.overflow_add-out
-overflow_add-out c = omega arith
-
-pub offset_bounds-out-left : goal.offset_bounds-out-left
-offset_bounds-out-left c = omega arith
-
-pub bounds-out-left : goal.bounds-out-left
-bounds-out-left c =
+pub put-requires : goal.put-requires
+put-requires c =
     let d = c in
     let s : length d.loop-left.out ≡ length d.args.out.now = d.loop-left.invariant.down.same in
-    omega arith
-
-pub overflow_mul-out-in-loop-left : goal.overflow_mul-out-in-loop-left
-overflow_mul-out-in-loop-left c = omega arith
-
-pub offset_bounds-out-left-in-loop-left : goal.offset_bounds-out-left-in-loop-left
-offset_bounds-out-left-in-loop-left c = omega arith
-
-pub bounds-out-left-in-loop-left : goal.bounds-out-left-in-loop-left
-bounds-out-left-in-loop-left c =
-    let d = c in
-    let s : length d.loop-left.out ≡ length d.args.out.now = d.loop-left.invariant.down.same in
-    simp length-set (omega arith)
+    let low : d.loop-left.left ≤ length d.args.out.now / 2 = d.loop-left.invariant.low in
+    omega (arith, s, low)
 
 pub loop-left-smaller : goal.loop-left-smaller
 loop-left-smaller c = omega arith
@@ -60,7 +41,7 @@ loop-left-smaller c = omega arith
 pub loop-left-preserved : goal.loop-left-preserved
 loop-left-preserved c =
     let d = c in
-    walking-step _ _ _ d.loop-left.invariant c.step-state.result c.step-state.ensures (omega arith) c.if-state.false
+    walking-put _ _ _ d.loop-left.invariant d.step-state.result d.step-state.ensures (omega arith) c.if-state.false _ c.put.ensures
 
 pub shape_of-out : goal.shape_of-out
 shape_of-out c = c.loop-left.invariant.down.same

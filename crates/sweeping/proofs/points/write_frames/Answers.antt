@@ -11,54 +11,31 @@ pub loop-j-init : goal.loop-j-init
 loop-j-init c = record { re = c.step-step_re.ensures; im = c.step-step_im.ensures; frames = frames-none _ _ }
 
 pub write_asking-requires : goal.write_asking-requires
-write_asking-requires c =
-    let l = c in
-    let s = l in
-    omega (arith, frames-room s.args.r s.args.out.now l.loop-j.out l.loop-j.at l.loop-j.j s.requires.2 c.loop-j-test.true l.loop-j.invariant.frames)
+write_asking-requires c = let l = c.loop-j in omega (arith, frames-room c.args.r c.args.out.now l.out l.at l.j c.requires.2 c.loop-j-test.true l.invariant.frames)
 
 pub overflow_add-out : goal.overflow_add-out
-overflow_add-out c =
-    let l = c in
-    let s = l in
-    omega (arith, frames-room s.args.r s.args.out.now l.loop-j.out l.loop-j.at l.loop-j.j s.requires.2 c.loop-j-test.true l.loop-j.invariant.frames, s.well_formed)
+overflow_add-out c = let l = c.loop-j in omega (arith, frames-room c.args.r c.args.out.now l.out l.at l.j c.requires.2 c.loop-j-test.true l.invariant.frames, c.well_formed)
 
 pub bounds-out-at : goal.bounds-out-at
 bounds-out-at c =
-    let l = c in
-    let s = l in
-    omega (arith, frames-room s.args.r s.args.out.now l.loop-j.out l.loop-j.at l.loop-j.j s.requires.2 c.loop-j-test.true l.loop-j.invariant.frames, c.write_asking.auto.out)
+    let l = c.loop-j in
+    omega (arith, frames-room c.args.r c.args.out.now l.out l.at l.j c.requires.2 c.loop-j-test.true l.invariant.frames, c.write_asking.auto.out)
 
 pub overflow_add-at : goal.overflow_add-at
-overflow_add-at c =
-    let l = c in
-    let s = l in
-    omega (arith, frames-room s.args.r s.args.out.now l.loop-j.out l.loop-j.at l.loop-j.j s.requires.2 c.loop-j-test.true l.loop-j.invariant.frames, s.well_formed)
-
-pub overflow_add-j : goal.overflow_add-j
-overflow_add-j c = omega arith
-
-pub loop-j-smaller : goal.loop-j-smaller
-loop-j-smaller c = omega arith
+overflow_add-at c = let l = c.loop-j in omega (arith, frames-room c.args.r c.args.out.now l.out l.at l.j c.requires.2 c.loop-j-test.true l.invariant.frames, c.well_formed)
 
 pub loop-j-preserved : goal.loop-j-preserved
 loop-j-preserved c =
-    let w = c in
-    let f = w in
-    let t = f in
-    let l = t in
-    let s = l in
-    let v = l.loop-j.invariant in
+    let l = c.loop-j in
+    let v = l.invariant in
     record {
       re = v.re;
       im = v.im;
       frames =
-          frames-next s.args.r s.args.out.now l.loop-j.out _ l.loop-j.at l.loop-j.j f.fields_with.result s.requires.2 t.loop-j-test.true v.frames
-          (fields-at s.args.r l.loop-j.j _ _ _ _ _ v.re v.im f.part-re.ensures f.part-im.ensures f.fields_with.ensures)
-          w.write_asking.ensures;
+          frames-next c.args.r c.args.out.now l.out _ l.at l.j c.fields_with.result c.requires.2 c.loop-j-test.true v.frames
+          (fields-at c.args.r l.j _ _ _ _ _ v.re v.im c.part-re.ensures c.part-im.ensures c.fields_with.ensures)
+          c.write_asking.ensures;
     }
-
-pub shape_of-out : goal.shape_of-out
-shape_of-out c = c.loop-j.invariant.frames.seam.same
 
 pub returns : goal.returns
 returns c =

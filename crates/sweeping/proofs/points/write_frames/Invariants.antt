@@ -1,6 +1,6 @@
 use mathlib.Core.Path.{◌≡◌}
 use mathlib.Core.List.{List}
-use Prim.Native.Nat.{ℕ, ◌-◌}
+use Prim.Native.Nat.{ℕ}
 use lib.Ieee.{Float}
 use Rattle.sweeping.specs.declared.request.Request.{Request}
 use Rattle.sweeping.specs.Points.{step_of}
@@ -14,6 +14,3 @@ pub record Writing (r : Request) (step_re step_im : Float) (d out : List ℕ) (a
 
 abbrev pub invariant-loop-j : goal.invariant-loop-j
 invariant-loop-j l = Writing l.r l.step_re l.step_im l.initial.out l.out l.at l.j
-
-abbrev pub decreases-loop-j : goal.decreases-loop-j
-decreases-loop-j l = l.r.steps - l.j

@@ -4,14 +4,14 @@ use native.Mathlib.Omega.{arith}
 use Rattle.frame.proofs.OverFacts.{offered-room, offered-none}
 use Rattle.sweeping.proofs.PointFacts.{frames-length}
 use Rattle.sweeping.proofs.sweep.offer_frames.Goals as goal
-
-pub returns-then-out-needed : goal.returns-then-out-needed
-returns-then-out-needed c =
-    let a = c.args in
-    (refl, sym (offered-none _ a.out.now (omega (arith, frames-length a.r a.r.steps))))
+use Rattle.sweeping.proofs.sweep.offer_frames.Goals.{then-needed-out, else-needed-out}
 
 pub returns : goal.returns
 returns c =
-    let a = c.args in
-    let w = c in
-    (refl, w.write_frames.ensures ∙ sym (offered-room _ a.out.now (omega (arith, frames-length a.r a.r.steps))))
+    let a = c.args in (
+      refl,
+      elim c.if-needed-out.branch [
+        | then-needed-out w ↦ w.out-is ∙ w.write_frames.ensures ∙ sym (offered-room _ a.out.now (omega (arith, frames-length a.r a.r.steps, w.if-needed-out.true)))
+        | else-needed-out w ↦ w.out-is ∙ sym (offered-none _ a.out.now (omega (arith, frames-length a.r a.r.steps, w.if-needed-out.false)))
+      ],
+    )

@@ -1,28 +1,26 @@
 -- `sweeping::sweep::sweep` meets its contract, by the verdict. Assumes nothing.
-use mathlib.Core.Path.{sym, ◌∙◌}
-use Rattle.call.specs.declared.checks.Verdict.TheVariants.{Admitted}
+use mathlib.Core.Path.{◌≡◌, sym, ap, ◌∙◌}
+use Rattle.std.proofs.Common.{rules, Ok, Err}
+use Rattle.sweeping.specs.Sweep.{swept_in}
 use Rattle.sweeping.proofs.SweepFacts.{admitted-steps, verdict-is, admitted-outcome, refused-outcome}
 use Rattle.sweeping.proofs.sweep.sweep.Goals as goal
 
+pub returns-in_err-sweep_verdict : goal.returns-in_err-sweep_verdict
+returns-in_err-sweep_verdict c =
+    let a = c.args in
+    let n = c.normalised_request-r in
+    let x = c.in_err-sweep_verdict.field-0.0 in
+    let was : c.sweep_verdict.result ≡ Err x = search rules in
+    let gives : c.from_residual.result ≡ Err x = search rules in
+    let k = refused-outcome a.request x a.out.now (verdict-is a.request n.result _ _ n.ensures c.sweep_verdict.ensures was) in
+    (ap swept_in gives ∙ k.0, k.1)
+
 pub offer_frames-requires : goal.offer_frames-requires
-offer_frames-requires c =
-    let d = c in
-    admitted-steps _ (sym d.sweep_verdict-verdict.ensures ∙ c.in-Admitted.is)
+offer_frames-requires c = let was : c.sweep_verdict.result ≡ Ok tt = search rules in admitted-steps _ (sym c.sweep_verdict.ensures ∙ was)
 
-pub returns-in-Admitted : goal.returns-in-Admitted
-returns-in-Admitted c =
-    let b = c in
-    let d = b in
-    let n = d in
-    let a = n.args in
-    let v = verdict-is a.request n.normalised_request-r.result _ Admitted n.normalised_request-r.ensures d.sweep_verdict-verdict.ensures b.in-Admitted.is in
-    admitted-outcome a.request _ _ _ a.out.now n.normalised_request-r.ensures v b.offer_frames.ensures.0 b.offer_frames.ensures.1
-
-pub returns-in-Refused : goal.returns-in-Refused
-returns-in-Refused c =
-    let e = c in
-    let d = e in
-    let n = d in
-    let a = n.args in
-    let v = verdict-is a.request n.normalised_request-r.result _ _ n.normalised_request-r.ensures d.sweep_verdict-verdict.ensures e.in-Refused.is in
-    refused-outcome a.request _ _ a.out.now v c.number.ensures
+pub returns : goal.returns
+returns c =
+    let a = c.args in
+    let n = c.normalised_request-r in
+    let was : c.sweep_verdict.result ≡ Ok tt = search rules in
+    admitted-outcome a.request n.result _ _ a.out.now n.ensures (verdict-is a.request n.result _ _ n.ensures c.sweep_verdict.ensures was) c.offer_frames.ensures.0 c.offer_frames.ensures.1

@@ -20,7 +20,7 @@ use Rattle.answering.specs.Line.{parsed_line}
 use Rattle.answering.proofs.LineFacts.{framed-line}
 use Rattle.splitting.specs.Lines.{newline}
 use Rattle.answering.specs.Feed.{most_held, Feed, with_line, closed_of, step_of, fed_of}
-use Rattle.lichenoar.specs.Feed.{feed_of, frame_ahead}
+use Rattle.lichenoar.specs.Feed.{frame_ahead}
 use Rattle.answering.proofs.FeedFacts.{feed, step-newline, step_other, fed-snoc}
 
 -- ---- digits are held one by one
@@ -94,16 +94,21 @@ by-reading chunk at n m h l g =
 
 -- ---- a frame closed where it stands, and a byte
 pub frame-taken :
-    (chunk line out w : List ℕ) (at held filled n : ℕ) (f : Fields) → Ahead chunk at → framed_of (take 56 (drop at chunk)) ≡ Frame f → held ≡ 0 → n ≡ 57 → w ≡ with_line (parsed_line (asked_of f)) (take filled out) →
-    feed (take held line) w ≡ fed_of (feed_of line held out filled) (take n (drop at chunk))
+    (chunk line out w : List ℕ) (at n : ℕ) (f : Fields) → Ahead chunk at → framed_of (take 56 (drop at chunk)) ≡ Frame f → length line ≡ 0 → n ≡ 57 →
+    w ≡ with_line (parsed_line (asked_of f)) out → feed line w ≡ fed_of (feed line out) (take n (drop at chunk))
 unfolding closed_of
-frame-taken chunk line out w at held filled n f h p z q e =
+frame-taken chunk line out w at n f h p z q e =
     let D = take 56 (drop at chunk) in
-    ap (λ (k : ℕ). feed (take k line) w) z
-    ∙ ap (feed []) (e ∙ ap (λ (l : List ℕ). with_line l (take filled out)) (sym (framed-line D f p)))
-    ∙ sym (frame-fed chunk at h (take filled out))
-    ∙ sym (ap (λ (k : ℕ). fed_of (feed (take k line) (take filled out)) (take 57 (drop at chunk))) z)
-    ∙ sym (ap (λ (k : ℕ). fed_of (feed_of line held out filled) (take k (drop at chunk))) q)
+    let none : line ≡ [] = empty line z in
+    ap (λ (l : List ℕ). feed l w) none
+    ∙ ap (feed []) (e ∙ ap (λ (l : List ℕ). with_line l out) (sym (framed-line D f p)))
+    ∙ sym (frame-fed chunk at h out)
+    ∙ sym (ap (λ (l : List ℕ). fed_of (feed l out) (take 57 (drop at chunk))) none)
+    ∙ sym (ap (λ (k : ℕ). fed_of (feed line out) (take k (drop at chunk))) q)
+  where
+    empty : (l : List ℕ) → length l ≡ 0 → l ≡ []
+    empty [] e = refl
+    empty (b ∷ l) e = absurd (omega arith)
 
 pub byte-taken : (chunk : List ℕ) (s : Feed) (at n : ℕ) → at < length chunk → n ≡ 1 → step_of s (get_or chunk at 0) ≡ fed_of s (take n (drop at chunk))
 unfolding fed_of

@@ -1,5 +1,5 @@
 -- One read after the others: what was read so far, and one read more; what the whole run comes to. Assumes nothing.
-use mathlib.Core.Path.{◌≡◌, sym, ap, ◌∙◌, subst}
+use mathlib.Core.Path.{◌≡◌, refl, sym, ap, ◌∙◌, subst}
 use mathlib.Core.Bool.{true, false}
 use mathlib.Core.Logic.{inl, inr}
 use mathlib.Core.List.{List, [], ◌∷◌, ◌++◌}
@@ -15,61 +15,53 @@ use Rattle.io.specs.Counts.{clamp_len}
 use Rattle.splitting.specs.declared.state.State.TheVariants.{Going, Unwritten}
 use Rattle.lichenoar.specs.declared.turn.Turn.{Turn}
 use Rattle.answering.specs.Lines.{output_of}
-use Rattle.answering.specs.Feed.{most_held, ended_from, owed_of, kept_of}
-use Rattle.lichenoar.specs.Turn.{tallied, Adds, Passed, AfterBytes, Ended, AtEnd, Failed, TakenSome, Taken, OneRead, Served}
+use Rattle.answering.specs.Feed.{ended_from, owed_of, kept_of, fed_of}
+use Rattle.lichenoar.specs.Turn.{tallied, Adds, Passed, AfterBytes, Ended, AtEnd, Failed, TakenSome, Taken, Reached, Served}
 use Rattle.answering.proofs.FeedFacts.{kept_append, owed-append}
 use Rattle.lichenoar.proofs.TurnFacts.{adds_again}
 use Rattle.answering.proofs.WholeInput.{output-parts}
 
--- ---- by what a read brought
-pub some_end : (bytes held line : List ℕ) (sent : ℕ) (r : Turn) → length bytes ≡ 0 → AtEnd held sent r → TakenSome bytes held sent line r
-unfolding TakenSome
-some_end [] held line sent r e t = t
-some_end (b ∷ bytes) held line sent r e t = absurd (omega arith)
-
-pub some_bytes : (bytes held line : List ℕ) (sent : ℕ) (r : Turn) → 0 < length bytes → AfterBytes held bytes sent line r → TakenSome bytes held sent line r
-unfolding TakenSome
-some_bytes [] held line sent r e t = absurd (omega arith)
-some_bytes (b ∷ bytes) held line sent r e t = t
-
--- ---- by what a read reported
-module _ (buffer held line : List ℕ) (sent : ℕ) (r : Turn) where
-  pub taken-failed : (got : ℤ) → lt_z got (pos 0) ≡ true → Failed sent r → Taken got buffer held sent line r
+-- ---- by what a read reported and brought
+module _ (held line : List ℕ) (sent : ℕ) (r : Turn) where
+  pub taken-failed : (k : ℕ) (buffer : List ℕ) → Failed sent r → Taken (negsuc k) buffer held sent line r
   unfolding Taken
-  taken-failed (pos k) e t = absurd (let h : k < 0 = ltb-true k 0 e in omega arith)
-  taken-failed (negsuc k) e t = t
+  taken-failed k buffer w = w
 
-  pub taken-end : (got : ℤ) (n : ℕ) → lt_z got (pos 0) ≡ false → n ≡ clamp_len got (length buffer) → n ≡ 0 → AtEnd held sent r → Taken got buffer held sent line r
+  pub taken-end : (buffer : List ℕ) → AtEnd held sent r → Taken (pos 0) buffer held sent line r
+  unfolding Taken TakenSome
+  taken-end buffer w = let e : 0 ≡ min 0 (length buffer) = omega arith in subst (λ (m : ℕ). TakenSome (take m buffer) held sent line r) e w
+
+  some_bytes : (bytes : List ℕ) → 0 < length bytes → AfterBytes held bytes sent line r → TakenSome bytes held sent line r
+  unfolding TakenSome
+  some_bytes [] e w = absurd (omega arith)
+  some_bytes (b ∷ bytes) e w = w
+
+  pub taken-bytes :
+      (bytes : List ℕ) (n : ℕ) (buffer : List ℕ) → 0 < length bytes → n ≤ length buffer → bytes ≡ take n buffer → AfterBytes held bytes sent line r →
+      Taken (pos n) buffer held sent line r
   unfolding Taken
-  taken-end (pos k) n e f z t = some_end (take (min k (length buffer)) buffer) held line sent r (ap (λ (m : ℕ). length (take m buffer)) (sym f ∙ z)) t
-  taken-end (negsuc k) n e f z t = absurd (subst T e tt)
+  taken-bytes bytes n buffer some room same w =
+      let e : n ≡ min n (length buffer) = omega arith in
+      subst (λ (l : List ℕ). TakenSome l held sent line r) (same ∙ ap (λ (m : ℕ). take m buffer) e) (some_bytes bytes some w)
 
-  pub taken-bytes : (got : ℤ) (n : ℕ) → lt_z got (pos 0) ≡ false → n ≡ clamp_len got (length buffer) → 0 < n → AfterBytes held (take n buffer) sent line r → Taken got buffer held sent line r
-  unfolding Taken
-  taken-bytes (pos k) n e f l t =
-      some_bytes (take (min k (length buffer)) buffer) held line sent r (omega (arith, length-take-le (min k (length buffer)) buffer (omega arith)))
-      (subst (λ (m : ℕ). AfterBytes held (take m buffer) sent line r) f t)
-  taken-bytes (negsuc k) n e f l t = absurd (subst T e tt)
+-- ---- what was read so far
+pub reached-none : Reached [] 0
+unfolding owed_of kept_of fed_of
+reached-none = record { input = []; holds = refl; adds = refl }
 
--- ---- what was read so far: what it leaves is held, and the answers of its lines were handed on
-pub record Reached (line : List ℕ) (held sent : ℕ) : Type 0 where
-  pub input : List ℕ
-  pub holds : take held line ≡ kept_of [] input
-  pub adds : Adds 0 (length (owed_of [] input)) sent
-
-module _ (line : List ℕ) (held sent : ℕ) (before : Reached line held sent) (line' : List ℕ) (r : Turn) where
+module _ (line : List ℕ) (sent : ℕ) (before : Reached line sent) (line' : List ℕ) (r : Turn) where
   abbrev so_far : List ℕ
   so_far = before.input
 
   -- some bytes more
-  module _ (bytes : List ℕ) (p : Passed (take held line) bytes sent line' r) where
-    more : Reached line' r.held r.sent
+  module _ (bytes : List ℕ) (p : Passed line bytes sent line' r) where
+    more : Reached line' r.sent
     more =
         record {
           input = so_far ++ bytes;
           holds = p.holds ∙ ap (λ (h : List ℕ). kept_of h bytes) before.holds ∙ kept_append [] so_far bytes;
           adds =
-              adds_again 0 (length (owed_of [] so_far)) sent (length (owed_of (take held line) bytes)) r.sent before.adds p.adds
+              adds_again 0 (length (owed_of [] so_far)) sent (length (owed_of line bytes)) r.sent before.adds p.adds
               ∙ ap (λ (n : ℕ). tallied (0 + n))
               (ap (λ (h : List ℕ). length (owed_of [] so_far) + length (owed_of h bytes)) before.holds
               ∙ sym (length-append (owed_of [] so_far) (owed_of (kept_of [] so_far) bytes))
@@ -77,15 +69,15 @@ module _ (line : List ℕ) (held sent : ℕ) (before : Reached line held sent) (
         }
 
   -- the end
-  at-end : Ended (take held line) sent r → Adds 0 (length (output_of so_far)) r.sent
+  at-end : Ended line sent r → Adds 0 (length (output_of so_far)) r.sent
   at-end e =
-      adds_again 0 (length (owed_of [] so_far)) sent (length (ended_from (take held line) [])) r.sent before.adds e.adds
+      adds_again 0 (length (owed_of [] so_far)) sent (length (ended_from line [])) r.sent before.adds e.adds
       ∙ ap (λ (n : ℕ). tallied (0 + n))
       (ap (λ (h : List ℕ). length (owed_of [] so_far) + length (ended_from h [])) before.holds
       ∙ sym (length-append (owed_of [] so_far) (ended_from (kept_of [] so_far) []))
       ∙ ap length (output-parts so_far))
 
-  ends-whole : Ended (take held line) sent r → Served r
+  ends-whole : Ended line sent r → Served r
   ends-whole e =
       record {
         input = so_far;
@@ -115,42 +107,26 @@ module _ (line : List ℕ) (held sent : ℕ) (before : Reached line held sent) (
       none : (n : ℕ) → 0 + (n + 0) ≡ 0 + n
       none n = omega arith
 
-  -- one read more, and it goes on
-  pub record Onward : Type 0 where
-    pub few : r.held ≤ most_held
-    pub reached : Reached line' r.held r.sent
+  -- ---- one step more: it goes on, or it is over
+  abbrev Steps : Type 0
+  Steps = (r.state ≡ Going → Reached line' r.sent) × ((r.state ≡ Going → ⊥) → Served r)
 
-  onward-some : (bytes : List ℕ) → TakenSome bytes (take held line) sent line' r → r.state ≡ Going → Onward
-  unfolding TakenSome
-  onward-some [] t g =
-      elim t [
-        | inl e ↦ absurd (let z : ◌≡◌ {A = ℕ} 0 1 = cc e.ended in omega arith)
-        | inr e ↦ absurd (let z : ◌≡◌ {A = ℕ} 0 1 = cc in omega arith)
-      ]
-  onward-some (b ∷ bytes) t g =
-      elim t [
-        | inl p ↦ record { few = p.few; reached = more (b ∷ bytes) p }
-        | inr e ↦ absurd (let z : ◌≡◌ {A = ℕ} 0 1 = cc in omega arith)
+  pub on-bytes : (bytes : List ℕ) → AfterBytes line bytes sent line' r → Steps
+  on-bytes bytes w =
+      elim w [
+        | inl p ↦ (λ g. more bytes p, λ o. absurd (o p.going))
+        | inr e ↦ (λ g. absurd (let z : ◌≡◌ {A = ℕ} 0 1 = cc in omega arith), λ o. ends-unwritten e)
       ]
 
-  onward-taken : (got : ℤ) (buffer : List ℕ) → Taken got buffer (take held line) sent line' r → r.state ≡ Going → Onward
-  unfolding Taken
-  onward-taken (pos k) buffer t g = onward-some (take (min k (length buffer)) buffer) t g
-  onward-taken (negsuc k) buffer t g = absurd (let z : ◌≡◌ {A = ℕ} 0 1 = cc t.failed in omega arith)
+  pub on-end : AtEnd line sent r → (r.state ≡ Going → ⊥) → Steps
+  on-end w over = (λ g. absurd (over g), λ o. elim w [ inl e ↦ ends-whole e | inr e ↦ ends-unwritten e ])
 
-  pub onward : OneRead (take held line) sent line' r → r.state ≡ Going → Onward
-  onward o g = onward-taken o.got o.buffer o.taken g
+  pub on-failure : Failed sent r → Steps
+  on-failure w = (λ g. absurd (let z : ◌≡◌ {A = ℕ} 0 1 = cc w.failed in omega arith), λ o. ends-unread w)
 
-  -- or it is over
-  over-some : (bytes : List ℕ) → TakenSome bytes (take held line) sent line' r → (r.state ≡ Going → ⊥) → Served r
-  unfolding TakenSome
-  over-some [] t g = elim t [ inl e ↦ ends-whole e | inr e ↦ ends-unwritten e ]
-  over-some (b ∷ bytes) t g = elim t [ inl p ↦ absurd (g p.going) | inr e ↦ ends-unwritten e ]
-
-  over-taken : (got : ℤ) (buffer : List ℕ) → Taken got buffer (take held line) sent line' r → (r.state ≡ Going → ⊥) → Served r
-  unfolding Taken
-  over-taken (pos k) buffer t g = over-some (take (min k (length buffer)) buffer) t g
-  over-taken (negsuc k) buffer t g = ends-unread t
-
-  pub is-over : OneRead (take held line) sent line' r → (r.state ≡ Going → ⊥) → Served r
-  is-over o g = over-taken o.got o.buffer o.taken g
+pub not-going-end : (held : List ℕ) (sent : ℕ) (r : Turn) → AtEnd held sent r → r.state ≡ Going → ⊥
+not-going-end held sent r w g =
+    elim w [
+      | inl e ↦ (let z : ◌≡◌ {A = ℕ} 0 1 = cc e.ended in omega arith)
+      | inr e ↦ (let z : ◌≡◌ {A = ℕ} 0 1 = cc in omega arith)
+    ]

@@ -9,23 +9,21 @@ use lib.Seq.{length-take-le}
 use Rattle.splitting.specs.Lines.{newline}
 use Rattle.splitting.specs.Cut.{part_of}
 use Rattle.answering.specs.Feed.{Feed, step_if, step_of, fed_of, ended_from, owed_of, kept_of}
-use Rattle.lichenoar.specs.Feed.{feed_of}
+use Rattle.lichenoar.specs.declared.lines.Buffers.{Buffers}
+use Rattle.lichenoar.specs.Feeding.{feed_of}
 use Rattle.lichenoar.specs.Turn.{tallied, Adds}
 use Rattle.answering.proofs.FeedFacts.{kept_append, owed-append}
 use Rattle.lichenoar.proofs.BufferFacts.{taken-both}
 
--- ---- what the buffers hold is what is held and owed
-module _ (line out line' out' bytes : List ℕ) (held held' filled : ℕ) (e : feed_of line' held' out' filled ≡ fed_of (feed_of line held out 0) bytes) where
-  pub is-owed : take filled out' ≡ owed_of (take held line) bytes
+-- ---- what the buffers hold is what is held and owed, where nothing was written before
+module _ (b b' : Buffers) (bytes : List ℕ) (e : feed_of b' ≡ fed_of (feed_of b) bytes) (none : b.out ≡ []) where
+  pub is-owed : b'.out ≡ owed_of b.line bytes
   unfolding owed_of
-  is-owed = ap (λ (x : Feed). x.written) e
+  is-owed = ap (λ (x : Feed). x.written) (e ∙ ap (λ (w : List ℕ). fed_of (record { held = b.line; written = w }) bytes) none)
 
-  pub is-kept : take held' line' ≡ kept_of (take held line) bytes
+  pub is-kept : b'.line ≡ kept_of b.line bytes
   unfolding kept_of
-  is-kept = ap (λ (x : Feed). x.held) e
-
-  pub owed-length : filled ≤ length out' → filled ≡ length (owed_of (take held line) bytes)
-  owed-length h = sym (length-take-le filled out' h) ∙ ap length is-owed
+  is-kept = ap (λ (x : Feed). x.held) (e ∙ ap (λ (w : List ℕ). fed_of (record { held = b.line; written = w }) bytes) none)
 
 -- ---- the last line, as if its newline had come
 pub last-owed : (h : List ℕ) → 0 < length h → owed_of h (newline ∷ []) ≡ ended_from h []
@@ -50,6 +48,11 @@ adds_again s n t m u e f =
 
 pub adds-tally : (t m u : ℕ) → u ≡ tallied (t + m) → Adds t m u
 adds-tally t m u e = ap tallied e ∙ mod-mod (t + m) 9223372036854775808
+
+pub none-owed : (h : List ℕ) (s : ℕ) → length h ≡ 0 → Adds s (length (ended_from h [])) s
+unfolding ended_from
+none-owed [] s e = adds_none s
+none-owed (b ∷ h) s e = absurd (omega arith)
 
 -- ---- one part of a chunk after the parts before
 module _ (chunk h kept : List ℕ) (at next : ℕ) (before : at ≤ next) (holds : kept ≡ kept_of h (take at chunk)) where

@@ -1,3 +1,4 @@
 -- The definitions, by topic.
 pub mod Feed
+pub mod Feeding
 pub mod Turn

@@ -8,14 +8,13 @@ mod serve;
 mod telling;
 mod turn;
 
-use serve::serve;
+use deliver::Answerer;
+use splitting::serving::serve;
 use telling::tell;
 
 fn main(rt: HostRuntime) {
     let mut stdin = rt.stdin();
-    let mut line = [0u8; 57];
-    let mut out = io::large_buffer();
-    let last = serve(&mut stdin, &mut line, &mut out);
-    let state = last.state;
-    tell(state);
+    let mut answerer = Answerer::new();
+    serve(&mut stdin, &mut answerer);
+    tell(answerer.turn.state);
 }

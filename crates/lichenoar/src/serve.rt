@@ -1,110 +1,51 @@
-// The input in reads to its end. A read that fails is not the end: what was answered by then stays written, and the line that is held is not
-// answered. Promised of one read, whatever it reports and brings: Taken of specs/Turn.antt. No contract can say what a read brings, so of the
-// whole run stated is that some input has answers as long as what the writer took: the one that the reads brought.
-ghost use Rattle.std.specs.Prelude.{◌≡◌, ◌≤◌, length, take, pos, ◌<ℤ◌, IfOk, OnErr};
-ghost use Rattle.answering.specs.Feed.{most_held};
-ghost use Rattle.lichenoar.specs.Feed.{most_room};
-ghost use Rattle.lichenoar.specs.Turn.{AtEnd, Taken, OneRead, Served};
+// The program as splitting's reads serve it. Promised of one read, whatever it reports and brings: Taken of specs/Turn.antt; and of the whole run
+// that some input has answers as long as what the writer took, the one that the reads brought: Served.
+ghost use Rattle.std.specs.Prelude.{◌≡◌};
+ghost use Rattle.splitting.specs.declared.state.State.TheVariants.{Going};
+ghost use Rattle.lichenoar.specs.Turn.{AtEnd, Taken, Reached, Served};
 
-use crate::deliver::consume;
-use crate::turn::Turn;
+use crate::deliver::Answerer;
 use splitting::cut::NEWLINE;
+use splitting::serving::Server;
 use splitting::state::{State, is_over};
-use std::io::{Error, Read, Stdin};
 
 // The last line may lack its newline: it is answered as if it had one.
-fn finish(line: &mut [u8], held: usize, out: &mut [u8], sent: u64) -> Turn
-    requires { (length line.old ≡ most_held) × (held ≤ most_held) × (most_room ≤ length out.old) }
-    ensures { AtEnd (take held line.old) sent result }
+fn close(answerer: &mut Answerer)
+    requires { answerer.old.turn.state ≡ Going }
+    ensures { AtEnd answerer.old.buffers.line answerer.old.turn.sent answerer.new.turn }
 {
-    if held == 0 {
-        return Turn {
-            held,
-            sent,
-            state: State::Whole,
-        };
+    if answerer.buffers.line.is_empty() {
+        answerer.turn.state = State::Whole;
+        return;
     }
-    let end = [NEWLINE];
-    let last = consume(&end, line, held, out, sent);
-    let state = last.state;
-    if is_over(state) {
-        return last;
-    }
-    Turn {
-        held: 0,
-        sent: last.sent,
-        state: State::Whole,
+    answerer.consume(&[NEWLINE]);
+    if !is_over(answerer.turn.state) {
+        answerer.turn.state = State::Whole;
     }
 }
 
-// What a read reported and brought: a failure, the end, or some bytes.
-fn take_read(
-    got: isize,
-    input: &[u8],
-    line: &mut [u8],
-    held: usize,
-    out: &mut [u8],
-    sent: u64,
-) -> Turn
-    requires { (length line.old ≡ most_held) × (held ≤ most_held) × (most_room ≤ length out.old) }
-    ensures { Taken got input.now (take held line.old) sent line.new result }
-{
-    if got < 0 {
-        return Turn {
-            held,
-            sent,
-            state: State::Unread,
-        };
-    }
-    let n = io::count(got, input);
-    if n == 0 {
-        return finish(line, held, out, sent);
-    }
-    consume(&input[0..n], line, held, out, sent)
-}
+impl Server for Answerer {
+    ghost state_of = { λ s. s.turn.state };
 
-// What a read reported as a number: how many bytes it put at the buffer's start, or less than 0 where it failed.
-fn reported(got: Result<usize, Error>) -> isize
-    requires { IfOk got (λ n. n ≤ 65536) }
-    ensures counted { IfOk got (λ n. result ≡ pos n) }
-    ensures failed { OnErr got (result <ℤ pos 0) }
-{
-    match got {
-        Ok(n) => n as isize,
-        Err(_) => -1,
-    }
-}
+    ghost after_read = { λ got buffer a b. Taken got buffer a.buffers.line a.turn.sent b.buffers.line b.turn };
 
-fn serve_read(stdin: &mut Stdin, line: &mut [u8], held: usize, out: &mut [u8], sent: u64) -> Turn
-    requires { (length line.old ≡ most_held) × (held ≤ most_held) × (most_room ≤ length out.old) }
-    ensures { OneRead (take held line.old) sent line.new result }
-{
-    let mut input = io::large_buffer();
-    let got = reported(stdin.read(&mut input));
-    take_read(got, &input, line, held, out, sent)
-}
+    ghost reached = { λ s. Reached s.buffers.line s.turn.sent };
 
-// A proved loop has to end, and nothing says that an input does: the turns are counted down from a number that no run uses up.
-pub fn serve(stdin: &mut Stdin, line: &mut [u8], out: &mut [u8]) -> Turn
-    requires { (length line.old ≡ most_held) × (most_room ≤ length out.old) }
-    ensures { Served result }
-{
-    let mut held = 0;
-    let mut sent = 0;
-    let mut turns = u64::MAX;
-    while turns > 0 {
-        let next = serve_read(stdin, line, held, out, sent);
-        let state = next.state;
-        if is_over(state) {
-            return next;
-        }
-        held = next.held;
-        sent = next.sent;
-        turns -= 1;
+    ghost served = { λ s. Served s.turn };
+
+    fn state(&self) -> State {
+        self.turn.state
     }
-    Turn {
-        held,
-        sent,
-        state: State::Unread,
+
+    fn receive(&mut self, bytes: &[u8]) {
+        self.consume(bytes);
+    }
+
+    fn finish(&mut self) {
+        close(self);
+    }
+
+    fn fail(&mut self) {
+        self.turn.state = State::Unread;
     }
 }

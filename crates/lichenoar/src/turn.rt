@@ -1,12 +1,11 @@
-// How far the program is: what it holds of a line, how many bytes of answers the writer took, and whether it goes on or how it ended.
+// How far the program is: how many bytes of answers the writer took, and whether it goes on or how it ended.
 ghost use Rattle.std.specs.Prelude.{◌≡◌, ◌+◌};
 ghost use Rattle.lichenoar.specs.Turn.{tallied};
 
 use splitting::state::State;
 
-#[derive(Drop)]
+#[derive(Clone, Copy, Debug, PartialEq, Eq)]
 pub struct Turn {
-    pub held: usize,
     pub sent: u64,
     pub state: State,
 }

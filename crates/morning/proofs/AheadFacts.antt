@@ -12,7 +12,7 @@ use Rattle.splitting.proofs.CutFacts.{left-newline, left_other, ended-newline, e
 use Rattle.frame.specs.Layout.{record_length, longest_line}
 use Rattle.frame.specs.Digits.{is_digit, are_digits}
 use Rattle.frame.proofs.DigitFacts.{both, digits_append, digit-no-newline}
-use Rattle.morning.specs.Ahead.{StartsWell, LineAhead, Ahead}
+use Rattle.morning.specs.Ahead.{StartsWell, LineAhead}
 use Rattle.morning.specs.Turn.{most_held}
 
 -- ---- so many digits, a record's and whole pairs
@@ -40,11 +40,8 @@ counting_more chunk at n m c h r e d =
           ∙ digits_append (take n (drop at chunk)) (take 32 (drop (at + n) chunk)) c.digits (subst (λ (k : ℕ). are_digits (take k (drop (at + n) chunk)) ≡ true) e d);
     }
 
-pub counted-ahead : (chunk : List ℕ) (at n : ℕ) → Counting chunk at n → at + n < length chunk → get_or chunk (at + n) 0 ≡ newline → Ahead chunk at n
-counted-ahead chunk at n c h e some = record { long = c.long; few = c.few; room = h; digits = c.digits; ended = e }
-
-pub none_ahead : (chunk : List ℕ) (at : ℕ) → Ahead chunk at 0
-none_ahead chunk at some = absurd (omega arith)
+pub counted-ahead : (chunk : List ℕ) (at n : ℕ) → Counting chunk at n → at + n < length chunk → get_or chunk (at + n) 0 ≡ newline → LineAhead chunk at n
+counted-ahead chunk at n c h e = record { long = c.long; few = c.few; room = h; digits = c.digits; ended = e }
 
 -- ---- digits are held one by one
 digits-left : (D h : List ℕ) → are_digits D ≡ true → length h + length D ≤ most_held → (left_by most_held h D ≡ h ++ D) × (ended_in most_held h D ≡ [])

@@ -9,13 +9,10 @@ pub record StartsWell (chunk : List ℕ) (at : ℕ) : Type 0 where
   pub room : at + record_length ≤ length chunk
   pub digits : are_digits (take record_length (drop at chunk)) ≡ true
 
--- n digits and a newline, no more of them than an answer line has; or nothing is said, where n is 0
+-- n digits and a newline, no more of them than an answer line has
 pub record LineAhead (chunk : List ℕ) (at n : ℕ) : Type 0 where
   pub long : record_length ≤ n
   pub few : n ≤ longest_line
   pub room : at + n < length chunk
   pub digits : are_digits (take n (drop at chunk)) ≡ true
   pub ended : get_or chunk (at + n) 0 ≡ newline
-
-abbrev pub Ahead : List ℕ → ℕ → ℕ → Type 0
-Ahead chunk at n = 0 < n → LineAhead chunk at n

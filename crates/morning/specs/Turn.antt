@@ -7,6 +7,7 @@ use Rattle.splitting.specs.State.{status_of}
 use Rattle.splitting.specs.declared.state.State.TheVariants.{Going, Whole, Unread}
 use Rattle.page.specs.Layout.{most_lines}
 use Rattle.page.specs.Parts.{page_of}
+use Rattle.page.specs.Joining.{empty_page}
 use Rattle.morning.specs.Tally.{Grown}
 use Rattle.morning.specs.declared.turn.Turn.{Turn}
 
@@ -15,20 +16,18 @@ abbrev pub most_held : ℕ
 most_held = 16403
 
 -- ---- after a line as far as it is held, come to its end or not: counted, or held still
-pub record Settled (ended : Bool) (held : ℕ) (line page : List ℕ) (before : ℕ) (page' : List ℕ) (held' after : ℕ) : Type 0 where
-  pub few : held' ≤ held
-  pub holds : take held' line ≡ left_if ended (take held line)
-  pub grown : Grown (closed_if ended (take held line) []) page before page' after
+pub record Settled (ended : Bool) (held page : List ℕ) (before : ℕ) (line page' : List ℕ) (after : ℕ) : Type 0 where
+  pub holds : line ≡ left_if ended held
+  pub grown : Grown (closed_if ended held []) page before page' after
 
 -- ---- after some bytes: what they leave is held, and the lines that they end are counted
-pub record Passed (held bytes page : List ℕ) (before : ℕ) (line page' : List ℕ) (held' after : ℕ) : Type 0 where
-  pub few : held' ≤ most_held
-  pub holds : take held' line ≡ left_by most_held held bytes
+pub record Passed (held bytes page : List ℕ) (before : ℕ) (line page' : List ℕ) (after : ℕ) : Type 0 where
+  pub holds : line ≡ left_by most_held held bytes
   pub grown : Grown (ended_in most_held held bytes) page before page' after
 
 pub record PassedTo (held bytes page : List ℕ) (before : ℕ) (line page' : List ℕ) (r : Turn) : Type 0 where
   pub going : r.state ≡ Going
-  pub passed : Passed held bytes page before line page' r.held r.refused
+  pub passed : Passed held bytes page before line page' r.refused
 
 -- ---- at the end of the input: what is held is a last line, unless it is empty
 pub record AtEnd (held page : List ℕ) (before : ℕ) (page' : List ℕ) (r : Turn) : Type 0 where
@@ -44,12 +43,6 @@ unfoldable pub TakenRead : ℤ → List ℕ → List ℕ → List ℕ → ℕ �
 TakenRead (negsuc k) buffer held page before line page' r = r.state ≡ Unread
 TakenRead (pos k) buffer held page before line page' r = TakenSome (take (min k (length buffer)) buffer) held page before line page' r
 
--- what it reported and brought, which no contract can name
-pub record OneRead (held page : List ℕ) (before : ℕ) (line page' : List ℕ) (r : Turn) : Type 0 where
-  pub got : ℤ
-  pub buffer : List ℕ
-  pub taken : TakenRead got buffer held page before line page' r
-
 -- ---- the whole run: where all was read, the page is that of the lines of what the reads brought, of the first 2^32 - 1 of them, and the others are
 -- counted as too many; 0 is told where there are none
 pub record Served (page : List ℕ) (r : Turn) : Type 0 where
@@ -58,3 +51,8 @@ pub record Served (page : List ℕ) (r : Turn) : Type 0 where
   pub refused : r.state ≡ Whole → Adds 0 (length (lines_of input) - most_lines) r.refused
   pub over : r.state ≡ Going → ⊥
   pub clean : status_of r.state r.refused ≡ 48 → page ≡ page_of (lines_of input)
+
+-- ---- as long as it goes on: of what the reads brought, what it leaves is held, and the lines that it ended are counted
+pub record Reached (line page : List ℕ) (refused : ℕ) : Type 0 where
+  pub input : List ℕ
+  pub passed : Passed [] input empty_page 0 line page refused

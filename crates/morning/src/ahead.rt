@@ -1,46 +1,46 @@
 // Whether a line of digits that is as long as an answer line may be, and its newline, come next: then the line need not be held, and no byte of it is looked
-// at twice. Promised: Ahead of specs/Ahead.antt.
-ghost use Rattle.std.specs.Prelude.{◌≡◌, ◌<◌, length};
-ghost use Rattle.morning.specs.Ahead.{StartsWell, Ahead};
+// at twice. Promised: LineAhead of specs/Ahead.antt.
+ghost use Rattle.std.specs.Prelude.{◌<◌, length, IfSome};
+ghost use Rattle.morning.specs.Ahead.{StartsWell, LineAhead};
 
 use frame::digits::are_digits;
 use frame::layout::{LONGEST_LINE, PAIR_WIDTH, RECORD_LENGTH};
 use splitting::cut::NEWLINE;
 
-// Pair by pair, behind a record. 0 is for none.
-fn pairs_ahead(chunk: &[u8], at: usize) -> usize
+// Pair by pair, behind a record.
+fn pairs_ahead(chunk: &[u8], at: usize) -> Option<usize>
     requires { StartsWell chunk.now at }
-    ensures { Ahead chunk.now at result }
+    ensures { IfSome result (LineAhead chunk.now at) }
 {
     let mut n = RECORD_LENGTH;
     while at + n < chunk.len() {
         if chunk[at + n] == NEWLINE {
-            return n;
+            return Some(n);
         }
         if n >= LONGEST_LINE {
-            return 0;
+            return None;
         }
         if chunk.len() - at - n < PAIR_WIDTH {
-            return 0;
+            return None;
         }
         if !are_digits(&chunk[at + n..at + n + PAIR_WIDTH]) {
-            return 0;
+            return None;
         }
         n += PAIR_WIDTH;
     }
-    0
+    None
 }
 
-// How many digits, behind which the newline stands; 0 is for none.
-pub fn digits_ahead(chunk: &[u8], at: usize) -> usize
+// How many digits, behind which the newline stands.
+pub fn digits_ahead(chunk: &[u8], at: usize) -> Option<usize>
     requires { at < length chunk.now }
-    ensures { Ahead chunk.now at result }
+    ensures { IfSome result (LineAhead chunk.now at) }
 {
     if chunk.len() - at < RECORD_LENGTH {
-        return 0;
+        return None;
     }
     if !are_digits(&chunk[at..at + RECORD_LENGTH]) {
-        return 0;
+        return None;
     }
     pairs_ahead(chunk, at)
 }

@@ -9,13 +9,13 @@ mod tally;
 mod telling;
 mod turn;
 
-use serve::serve;
+use serve::Morning;
+use splitting::serving::serve;
 use telling::tell;
 
 fn main(rt: HostRuntime) {
     let mut stdin = rt.stdin();
-    let mut line = [0u8; 16403];
-    let mut page = [0u64; 58];
-    let last = serve(&mut stdin, &mut line, &mut page);
-    tell(last, &page);
+    let mut morning = Morning::new();
+    serve(&mut stdin, &mut morning);
+    tell(morning.turn, &morning.page);
 }

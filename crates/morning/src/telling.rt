@@ -6,16 +6,10 @@ ghost use Rattle.splitting.specs.declared.state.State.TheVariants.{Whole};
 ghost use Rattle.morning.specs.Turn.{Served};
 ghost use Rattle.morning.specs.Rows.{page_text};
 
-use crate::rows::put_page;
+use crate::rows::page_text;
 use crate::turn::Turn;
-use splitting::cut::NEWLINE;
 use splitting::state::{State, status};
-
-const STDOUT_FILENO: i32 = 1;
-
-const STDERR_FILENO: i32 = 2;
-
-const STATUS_FILENO: i32 = 3;
+use splitting::telling::{STDERR_FILENO, STDOUT_FILENO, loss};
 
 // The one place where a page leaves the program: that of the whole input. How it ended is there for the demand.
 fn send(text: &[u8], page: &[u64; 58], last: Turn) -> State
@@ -31,32 +25,11 @@ fn send(text: &[u8], page: &[u64; 58], last: Turn) -> State
 fn show(last: Turn, page: &[u64; 58]) -> State
     requires { Served page.now last }
 {
-    let state = last.state;
-    match state {
-        State::Whole => {
-            let mut text = [0u8; 4096];
-            let n = put_page(page, &mut text);
-            send(&text[0..n], page, last)
-        }
-        State::Going => State::Going,
-        State::Unwritten => State::Unwritten,
-        State::Unread => State::Unread,
+    if last.state != State::Whole {
+        return last.state;
     }
-}
-
-fn lament(state: State) {
-    match state {
-        State::Unwritten => io::write_all(
-            STDERR_FILENO,
-            b"morning: the page could not be written\n",
-        ),
-        State::Unread => io::write_all(
-            STDERR_FILENO,
-            b"morning: the input could not be read to its end; there is no page\n",
-        ),
-        State::Going => false,
-        State::Whole => false,
-    };
+    let text = page_text(page);
+    send(text.as_bytes(), page, last)
 }
 
 pub fn tell(last: Turn, page: &[u64; 58])
@@ -66,6 +39,7 @@ pub fn tell(last: Turn, page: &[u64; 58])
     if last.refused > 0 {
         io::write_all(STDERR_FILENO, b"line 4294967296: refusal 15\n");
     }
-    lament(state);
-    io::write_all(STATUS_FILENO, &[status(state, last.refused), NEWLINE]);
+    let unwritten = b"morning: the page could not be written\n";
+    let unread = b"morning: the input could not be read to its end; there is no page\n";
+    splitting::telling::tell(loss(state, unwritten, unread), status(state, last.refused));
 }

@@ -15,7 +15,7 @@ pub struct Piece {
 }
 
 // What is held of a line: its first bytes, at most `N` of them.
-#[derive(Clone, Drop)]
+#[derive(Drop)]
 pub struct Line<const N: usize> {
     bytes: [u8; N],
     held: usize,
@@ -47,6 +47,16 @@ impl<const N: usize> Line<N> {
         ensures room { length self.now ≤ N }
     {
         &self.bytes[..self.held]
+    }
+
+    // The same line once more.
+    pub fn copied(&self) -> Self
+        ensures { result ≡ self.now }
+    {
+        Line {
+            bytes: self.bytes,
+            held: self.held,
+        }
     }
 
     pub fn is_empty(&self) -> bool

@@ -5,14 +5,7 @@ use Prim.Native.Nat.{ℕ, ◌+◌, ◌-◌}
 use native.Mathlib.Omega.{arith}
 use lib.ListN.{take, drop}
 use Rattle.frame.specs.Digits.{are_digits}
-use Rattle.morning.proofs.AheadFacts.{none_ahead}
 use Rattle.morning.proofs.ahead.digits_ahead.Goals as goal
-
-pub returns-then-chunk-at-lt-RECORD_LENGTH : goal.returns-then-chunk-at-lt-RECORD_LENGTH
-returns-then-chunk-at-lt-RECORD_LENGTH c = none_ahead _ _
-
-pub returns-then-not-are_digits : goal.returns-then-not-are_digits
-returns-then-not-are_digits c = none_ahead _ _
 
 pub pairs_ahead-requires : goal.pairs_ahead-requires
 pairs_ahead-requires c =

@@ -2,7 +2,7 @@
 use mathlib.Core.Path.{◌≡◌, sym, ◌∙◌}
 use Prim.Native.Nat.{◌+◌, ◌-◌}
 use native.Mathlib.Omega.{arith}
-use Rattle.morning.proofs.AheadFacts.{counting-first, counting_more, counted-ahead, none_ahead}
+use Rattle.morning.proofs.AheadFacts.{counting-first, counting_more, counted-ahead}
 use Rattle.morning.proofs.ahead.pairs_ahead.Goals as goal
 
 pub loop-n-init : goal.loop-n-init
@@ -20,17 +20,11 @@ bounds-chunk-at c = c.loop-n-test.true
 pub returns-then-chunk-at-eq-NEWLINE : goal.returns-then-chunk-at-eq-NEWLINE
 returns-then-chunk-at-eq-NEWLINE c = let l = c in let a = l.args in counted-ahead a.chunk.now a.at l.loop-n.n l.loop-n.invariant c.loop-n-test.true c.if-chunk-at-eq-NEWLINE.true
 
-pub returns-then-n-ge-LONGEST_LINE : goal.returns-then-n-ge-LONGEST_LINE
-returns-then-n-ge-LONGEST_LINE c = none_ahead _ _
-
 pub overflow_sub-chunk : goal.overflow_sub-chunk
 overflow_sub-chunk c = let l = c in omega (arith, l.loop-n.invariant.room)
 
 pub overflow_sub-chunk-in-loop-n : goal.overflow_sub-chunk-in-loop-n
 overflow_sub-chunk-in-loop-n c = let l = c in omega (arith, l.loop-n.invariant.room)
-
-pub returns-then-chunk-at-lt-PAIR_WIDTH : goal.returns-then-chunk-at-lt-PAIR_WIDTH
-returns-then-chunk-at-lt-PAIR_WIDTH c = none_ahead _ _
 
 pub overflow_add-at-in-loop-n-2 : goal.overflow_add-at-in-loop-n-2
 overflow_add-at-in-loop-n-2 c = let l = c in record { fits = omega (arith, l.loop-n.invariant.room, l.well_formed) }
@@ -47,9 +41,6 @@ slice_bounds-are_digits-count c = omega arith
 pub are_digits-requires : goal.are_digits-requires
 are_digits-requires c = tt
 
-pub returns-then-not-are_digits : goal.returns-then-not-are_digits
-returns-then-not-are_digits c = none_ahead _ _
-
 pub overflow_add-n : goal.overflow_add-n
 overflow_add-n c = let l = c in record { fits = omega (arith, l.loop-n.invariant.few) }
 
@@ -62,6 +53,3 @@ loop-n-preserved c =
     let a = l.args in
     let wide : a.at + l.loop-n.n + 32 - (a.at + l.loop-n.n) ≡ 32 = omega arith in
     counting_more a.chunk.now a.at l.loop-n.n _ l.loop-n.invariant c.if-n-ge-LONGEST_LINE.false c.if-chunk-at-lt-PAIR_WIDTH.false wide (sym c.are_digits.ensures ∙ c.if-not-are_digits.false)
-
-pub returns : goal.returns
-returns c = none_ahead _ _

@@ -1,0 +1,32 @@
+-- `lichenoar::deliver::Answerer::consume` meets its contract: part after part of the chunk, each with its answers handed on. Assumes nothing.
+use mathlib.Core.Path.{◌≡◌, refl, sym, ap, ◌∙◌}
+use mathlib.Core.Logic.{inl, inr}
+use mathlib.Core.List.{List}
+use Prim.Native.Nat.{ℕ, ◌+◌}
+use native.Mathlib.Nat.{le_of_lt}
+use native.Mathlib.Omega.{arith}
+use lib.ListN.{length, take}
+use lib.Seq.{take_all}
+use Rattle.answering.specs.Feed.{fed_of, owed_of, kept_of}
+use Rattle.lichenoar.specs.Turn.{tallied}
+use Rattle.lichenoar.proofs.TurnFacts.{adds_none, kept_next, adds-next}
+use Rattle.lichenoar.proofs.deliver.Answerer.consume.Goals as goal
+
+pub loop-at-init : goal.loop-at-init
+unfolding owed_of kept_of fed_of
+loop-at-init c = record { high = omega arith; going = c.requires; holds = refl; adds = adds_none c.args.self.now.turn.sent }
+
+pub loop-at-preserved : goal.loop-at-preserved
+loop-at-preserved c = ?
+
+pub returns : goal.returns
+returns c =
+    let l = c.loop-at in
+    let v = l.invariant in
+    let h = c.args.self.now.buffers.line in
+    let all : take l.at c.args.chunk.now ≡ c.args.chunk.now = take_all l.at c.args.chunk.now c.loop-at-test.false in
+    inl (record {
+      going = v.going;
+      holds = v.holds ∙ ap (kept_of h) all;
+      adds = v.adds ∙ ap (λ (x : List ℕ). tallied (c.args.self.now.turn.sent + length (owed_of h x))) all;
+    })

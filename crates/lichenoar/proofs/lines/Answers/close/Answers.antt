@@ -1,0 +1,33 @@
+-- `lichenoar::lines::Answers::close` meets its contract: the answer line behind what is written, and the newline behind it. Assumes nothing.
+use mathlib.Core.Path.{◌≡◌, sym, ap, ◌∙◌}
+use mathlib.Core.List.{List}
+use Prim.Native.Nat.{ℕ, ◌+◌, ◌-◌, ◌≤◌}
+use native.Mathlib.Omega.{arith}
+use borrow.Rule.Slice.PartMut.{mid_of, put_mid}
+use lib.ListN.{length, take, length-set}
+use lib.Seq.{length-take-le}
+use Rattle.frame.specs.declared.asking.Parsed.{Parsed}
+use Rattle.frame.specs.Over.{offered}
+use Rattle.answering.specs.Line.{parsed_line}
+use Rattle.answering.proofs.LineFacts.{parsed-bound, parsed-roomy}
+use Rattle.lichenoar.specs.Feed.{most_room, most_written}
+use Rattle.answering.specs.Feed.{with_line}
+use Rattle.lichenoar.proofs.BufferFacts.{Closing, closing, lent-room}
+use Rattle.lichenoar.proofs.lines.Answers.close.Goals as goal
+
+behind :
+    (p : Parsed) (d ys : List ℕ) (f n : ℕ) → f + most_room ≤ length d → n ≡ length (parsed_line p) → ys ≡ offered (parsed_line p) (mid_of f (length d - f) d) →
+    Closing d (parsed_line p) (put_mid f (length d - f) d ys) f n
+behind p d ys f n h e g = closing d (parsed_line p) ys f n h (parsed-bound p) e (g ∙ parsed-roomy p _ (lent-room d f h))
+
+-- how much is written leaves room for a line
+room :
+    (d : List ℕ) (f : ℕ) (w : List ℕ) → take f d ≡ w → f ≤ most_written → length d ≡ most_written → length w + most_room ≤ most_written → f + most_room ≤ length d
+room d f w e h l r = let n = length-take-le f d (omega arith) in let m = ap length e in omega arith
+
+pub overflow_add-end : goal.overflow_add-end
+overflow_add-end c =
+    let d = c.self.inside.bytes in
+    let r = room d c.self.inside.filled _ c.self.view_is c.self.invariant ? c.requires in
+    let k = behind c.args.parsed d _ c.self.inside.filled _ r c.answer_parsed-n.ensures.0 c.answer_parsed-n.ensures.1 in
+    omega (arith, k.most, r)

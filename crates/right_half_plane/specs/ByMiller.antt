@@ -1,7 +1,7 @@
 -- Seeds above |z| = 2 and at a fraction of ±½: a coefficient, which is both seeds at ±½, and Miller's steps at any other fraction. ZBKNU from label 110
 -- to label 210, and label 300 (zbknu.f); `k_right_half_plane` of src/amos/right_half_plane.rs; the steps themselves are crate miller's.
 -- DLMF 10.40.2 has the coefficient. Definitions only.
-use Rattle.std.specs.Prelude.{Bool, not, ◌&&◌, ◌||◌, cond, Float}
+use Rattle.std.specs.Prelude.{Bool, not, ◌&&◌, ◌||◌, cond, Result, Ok, Err, Float}
 use Rattle.std.specs.Float.{binary64}
 use Rattle.std.specs.Float.Ieee.{of_bits, lt, eq}
 use Rattle.laws.specs.Operators.{◌⊖◌}
@@ -20,8 +20,9 @@ use Rattle.miller.specs.declared.point.Order.{Order}
 use Rattle.miller.specs.Point.{is_real, point_of}
 use Rattle.miller.specs.declared.seeds.MillerSeeds as found
 use Rattle.miller.specs.Seeds as miller
+use Rattle.refusal.specs.declared.refusal.Refusal.{Refusal}
 use Rattle.right_half_plane.specs.declared.ground.Ground.{Ground}
-use Rattle.right_half_plane.specs.declared.seeds.Seeds.TheVariants.{Pair, Refused}
+use Rattle.right_half_plane.specs.declared.seeds.Seeds.TheVariants.{Pair}
 use Rattle.right_half_plane.specs.declared.seeds.Seeded.{Seeded}
 use Rattle.right_half_plane.specs.Ground.{is_alone}
 
@@ -51,16 +52,15 @@ coefficient_of scaled underflow z root angle =
 unfoldable pub far_state : Bool → OverflowState
 far_state underflow = cond underflow NearUnder None
 
-unfoldable pub miller_seeds : Bool → found.MillerSeeds → Seeded
+unfoldable pub miller_seeds : Bool → found.MillerSeeds → Result Seeded Refusal
 miller_seeds underflow (found.TheVariants.Pair m) =
-    record { seeds = Pair m.first m.second; state = far_state underflow; underflow = underflow; terms = 0; backward = m.backward }
-miller_seeds underflow (found.TheVariants.Refused refusal) =
-    record { seeds = Refused refusal; state = far_state underflow; underflow = underflow; terms = 0; backward = 0 }
+    Ok (record { seeds = Pair m.first m.second; state = far_state underflow; underflow = underflow; terms = 0; backward = m.backward })
+miller_seeds underflow (found.TheVariants.Refused refusal) = Err refusal
 
 unfoldable pub half_seeds : Bool → Complex → Seeded
 half_seeds underflow value = record { seeds = Pair value value; state = far_state underflow; underflow = underflow; terms = 0; backward = 0 }
 
-unfoldable pub other_seeds : Ground → Bool → Seeded
+unfoldable pub other_seeds : Ground → Bool → Result Seeded Refusal
 other_seeds g scaled =
     let root = sqrt_of g.modulus in
     let angle = argument_of g.z in
@@ -68,5 +68,5 @@ other_seeds g scaled =
     let value = coefficient_of scaled underflow g.z root angle in
     let point = point_with g.z g.modulus root angle in
     cond (is_half g.fraction)
-    (half_seeds underflow value)
+    (Ok (half_seeds underflow value))
     (miller_seeds underflow (miller.seeds_of point (order_of g.fraction g.square) value (is_alone g)))

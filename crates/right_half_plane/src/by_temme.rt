@@ -3,7 +3,7 @@
 ghost use Rattle.std.specs.Prelude.{◌≡◌};
 ghost use Rattle.right_half_plane.specs.ByTemme.{growth_state, growth_of, grown_by, temme_pair, temme_seeds};
 
-use crate::ground::{Ground, is_alone};
+use crate::ground::Ground;
 use crate::seeds::{Seeded, Seeds};
 use complex::number::Complex;
 use machine::constants::Machine;
@@ -12,6 +12,7 @@ use recurrence::state::{OverflowState, scale};
 use temme::seeds::Temme;
 
 // a large sinh μ over the fraction tells that the climb may overflow
+#[tactic(auto, unfolding(crate::specs::ByTemme::growth_state, machine::specs::Constants::approximation_limit))]
 fn growth_state(order: f64, shinc: Complex) -> OverflowState
     ensures { result ≡ growth_state order shinc }
 {
@@ -22,6 +23,7 @@ fn growth_state(order: f64, shinc: Complex) -> OverflowState
 }
 
 // e^z, which scaled seeds take. It does not wait for Temme's sum, and is worked out before it; unscaled seeds ask for none.
+#[tactic(auto, unfolding(crate::specs::ByTemme::growth_of))]
 fn growth(scaled: bool, z: Complex) -> Complex
     ensures { result ≡ growth_of scaled z }
 {
@@ -31,6 +33,7 @@ fn growth(scaled: bool, z: Complex) -> Complex
     Complex { re: 1.0, im: 0.0 }
 }
 
+#[tactic(auto, unfolding(crate::specs::ByTemme::grown_by))]
 fn grown(scaled: bool, growth: Complex, value: Complex) -> Complex
     ensures { result ≡ grown_by scaled growth value }
 {
@@ -40,40 +43,41 @@ fn grown(scaled: bool, growth: Complex, value: Complex) -> Complex
     value
 }
 
-fn temme_pair(g: Ground, scaled: bool, growth: Complex, factor: f64, t: Temme) -> Seeds
-    ensures { result ≡ temme_pair g scaled growth factor t }
-{
-    let two_over_z = g.two_over_z;
-    let low = t.first;
-    let high = t.second;
-    let first = low.times_real(factor);
-    let second = high.product(two_over_z.times_real(factor));
-    Seeds::Pair(grown(scaled, growth, first), grown(scaled, growth, second))
-}
+impl Ground {
+    #[tactic(auto, unfolding(crate::specs::ByTemme::temme_pair))]
+    fn temme_pair(self, scaled: bool, growth: Complex, factor: f64, t: Temme) -> Seeds
+        ensures { result ≡ temme_pair self scaled growth factor t }
+    {
+        let first = t.first.times_real(factor);
+        let second = t.second.product(self.two_over_z.times_real(factor));
+        Seeds::Pair(grown(scaled, growth, first), grown(scaled, growth, second))
+    }
 
-pub fn temme_seeds(g: Ground, scaled: bool) -> Seeded
-    ensures { result ≡ temme_seeds g scaled }
-{
-    let z = g.z;
-    let two_over_z = g.two_over_z;
-    let growth = growth(scaled, z);
-    let t = temme::seeds::seeds(z, g.modulus, two_over_z.ln(), g.fraction, g.square);
-    let terms = t.terms;
-    if is_alone(g) {
-        return Seeded {
-            seeds: Seeds::Finished(grown(scaled, growth, t.first)),
-            state: OverflowState::None,
+    #[tactic(auto, unfolding(crate::specs::ByTemme::temme_seeds))]
+    pub fn temme_seeds(self, scaled: bool) -> Seeded
+        ensures { result ≡ temme_seeds self scaled }
+    {
+        let z = self.z;
+        let two_over_z = self.two_over_z;
+        let growth = growth(scaled, z);
+        let t = temme::seeds::seeds(z, self.modulus, two_over_z.ln(), self.fraction, self.square);
+        let terms = t.terms;
+        if self.is_alone() {
+            return Seeded {
+                seeds: Seeds::Finished(grown(scaled, growth, t.first)),
+                state: OverflowState::None,
+                underflow: false,
+                terms,
+                backward: 0,
+            };
+        }
+        let state = growth_state(self.order, t.shinc);
+        Seeded {
+            seeds: self.temme_pair(scaled, growth, scale(state), t),
+            state,
             underflow: false,
             terms,
             backward: 0,
-        };
-    }
-    let state = growth_state(g.order, t.shinc);
-    Seeded {
-        seeds: temme_pair(g, scaled, growth, scale(state), t),
-        state,
-        underflow: false,
-        terms,
-        backward: 0,
+        }
     }
 }

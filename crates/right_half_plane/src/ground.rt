@@ -5,8 +5,10 @@ ghost use Rattle.std.specs.Float.Ieee.{le};
 ghost use Rattle.laws.proofs.Relative.{nonnegative};
 ghost use Rattle.call.specs.Limits.{largest_order};
 ghost use Rattle.right_half_plane.specs.Ground.{ground_of, is_alone};
+ghost use Rattle.right_half_plane.specs.Reach.{steps_of, wanted_of};
 
 use complex::number::Complex;
+use recurrence::state::Climb;
 use rounding::round::round;
 use temme::difference::fraction_square;
 
@@ -40,12 +42,39 @@ pub fn prepare(order: f64, z: Complex, modulus: f64, count: u32) -> Ground
     }
 }
 
-// the one value asked for is the first seed's own
-pub fn is_alone(g: Ground) -> bool
-    ensures { result ≡ is_alone g }
-{
-    if g.nearest == 0 {
-        return g.count == 1;
+impl Ground {
+    // the one value asked for is the first seed's own
+    #[tactic(auto, unfolding(crate::specs::Ground::is_alone))]
+    pub fn is_alone(self) -> bool
+        ensures { result ≡ is_alone self }
+    {
+        self.nearest == 0 && self.count == 1
     }
-    false
+
+    // how many rungs lie between the seeds and the orders wanted
+    #[tactic(auto, unfolding(crate::specs::Reach::steps_of))]
+    pub(crate) fn steps(self) -> u32
+        ensures { result ≡ steps_of self }
+    {
+        if self.count == 1 {
+            return self.nearest.saturating_sub(1);
+        }
+        self.nearest
+    }
+
+    // One value alone is the newer of the two, unless it is the first seed.
+    #[tactic(auto, unfolding(crate::specs::Reach::wanted_of))]
+    pub(crate) fn wanted(self, c: Climb) -> Climb
+        ensures { result ≡ wanted_of self c }
+    {
+        if self.count == 1 && self.nearest > 0 {
+            return Climb {
+                older: c.newer,
+                newer: c.newer,
+                state: c.state,
+                rungs: c.rungs,
+            };
+        }
+        c
+    }
 }

@@ -14,21 +14,22 @@ use crate::checks::k_verdict;
 use crate::outcome::{judge, refuse};
 use call::answer::{Answer, answered, signed};
 use call::checks::Verdict;
-use right_half_plane::kernel::{Ending, k_right_half_plane};
+use refusal::refusal::Refusal;
+use right_half_plane::kernel::{Counts, k_right_half_plane};
 
 // Every entry of an answer is finished; a refusal has left the cells as they were, and they are filled here.
-fn concluded(ending: Ending, out: &mut [f64]) -> Answer
+fn concluded(ending: Result<Counts, Refusal>, out: &mut [f64]) -> Answer
     requires { Fewer ending }
     ensures { (result ≡ (concluded_of (length out.old) (kernel_steps ending out.old)).answer)
         × (out.new ≡ (concluded_of (length out.old) (kernel_steps ending out.old)).cells) }
 {
     match ending {
-        Ending::Answered(c) => judge(
+        Ok(c) => judge(
             answered(signed(false, c.zeros), c.longest_sum, c.rungs, c.backward),
             0,
             out,
         ),
-        Ending::Refused(refusal) => refuse(refusal, out),
+        Err(refusal) => refuse(refusal, out),
     }
 }
 

@@ -7,8 +7,7 @@ use lib.Ieee.{Float}
 use Rattle.laws.specs.Iterate.{iterate}
 use Rattle.laws.proofs.Iterate.{iterate-zero, iterate-suc, iterate-next, iterate-add}
 use Rattle.complex.specs.declared.number.Complex.{Complex}
-use Rattle.miller.specs.declared.backward.RealSteps.{RealSteps}
-use Rattle.miller.specs.declared.backward.ComplexSteps.{ComplexSteps}
+use Rattle.miller.specs.declared.backward.Steps.{Steps}
 use Rattle.miller.specs.Backward.{real_step, real_first, real_steps, complex_step, complex_first, complex_steps}
 
 -- ---- a state that is so many steps from the first: at none, after one more, and with the last one to come
@@ -34,25 +33,25 @@ counted count step h first z (suc n) =
     ∙ ap (λ (k : ℕ). k + 1) (counted count step h first z n)
     ∙ add-one n
 
-real-count : (x distance : Float) (s : RealSteps) → (real_step x distance s).steps ≡ s.steps + 1
+real-count : (x distance : Float) (s : Steps Float) → (real_step x distance s).steps ≡ s.steps + 1
 unfolding real_step
 real-count x distance s = refl
 
 real-after : (x distance : Float) (start n : ℕ) → (iterate n (real_step x distance) (real_first start)).steps ≡ n
 unfolding real_first
-real-after x distance start n = counted (λ (s : RealSteps). s.steps) (real_step x distance) (real-count x distance) (real_first start) refl n
+real-after x distance start n = counted (λ (s : Steps Float). s.steps) (real_step x distance) (real-count x distance) (real_first start) refl n
 
 pub real-steps-are-the-start : (x distance : Float) (start : ℕ) → (real_steps x distance start).steps ≡ start
 unfolding real_steps
 real-steps-are-the-start x distance start = real-after x distance start start
 
-complex-count : (z : Complex) (distance : Float) (s : ComplexSteps) → (complex_step z distance s).steps ≡ s.steps + 1
+complex-count : (z : Complex) (distance : Float) (s : Steps Complex) → (complex_step z distance s).steps ≡ s.steps + 1
 unfolding complex_step
 complex-count z distance s = refl
 
 complex-after : (z : Complex) (distance : Float) (start n : ℕ) → (iterate n (complex_step z distance) (complex_first start)).steps ≡ n
 unfolding complex_first
-complex-after z distance start n = counted (λ (s : ComplexSteps). s.steps) (complex_step z distance) (complex-count z distance) (complex_first start) refl n
+complex-after z distance start n = counted (λ (s : Steps Complex). s.steps) (complex_step z distance) (complex-count z distance) (complex_first start) refl n
 
 pub complex-steps-are-the-start : (z : Complex) (distance : Float) (start : ℕ) → (complex_steps z distance start).steps ≡ start
 unfolding complex_steps

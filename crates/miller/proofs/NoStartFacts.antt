@@ -9,6 +9,7 @@ use lib.Dec.{T, leb, ltb}
 use lib.Ieee.{Float, nan, inf, fin, up, down, of_bits, neg, lt, le}
 use lib.Ieee.Fits.{down_pos}
 use lib.Ieee.Scale.{finite}
+use Rattle.std.specs.Prelude.{Option, Some, None, is_none, is_err}
 use Rattle.laws.specs.Run.{first_from}
 use Rattle.laws.proofs.Run.{found}
 use Rattle.laws.proofs.First.{passed}
@@ -17,10 +18,6 @@ use Rattle.machine.specs.Small.{one}
 use Rattle.complex.specs.declared.number.Complex.{Complex}
 use Rattle.miller.specs.declared.point.Point.{Point}
 use Rattle.miller.specs.declared.point.Order.{Order}
-use Rattle.miller.specs.declared.search.Start.{Start}
-use Rattle.miller.specs.declared.search.Start.TheVariants.{At, Unmet}
-use Rattle.miller.specs.declared.seeds.MillerSeeds.{MillerSeeds}
-use Rattle.miller.specs.declared.seeds.MillerSeeds.TheVariants.{Pair, Refused}
 use Rattle.miller.specs.Whole.{truncated}
 use Rattle.miller.specs.Trials.{met_after, trials_taken, trial_index}
 use Rattle.miller.specs.Search.{is_start, start_from, threshold, raw_start, corrected, convergence_test, by_recurrence, formula_of, start_of}
@@ -28,10 +25,6 @@ use Rattle.miller.specs.NoStart.{none_of, trials_unmet, no_number, minus_one_or_
 use Rattle.miller.specs.Seeds.{seeds_at, seeds_of}
 
 -- ---- a start that is none
-abbrev pub is_unmet : Start → Bool
-is_unmet (At k) = false
-is_unmet Unmet = true
-
 beyond : (raw : Float) → T (finite raw) → T (lt (neg one) raw) → T (le raw (neg one)) → ⊥
 unfolding lt neg of_bits
 beyond nan f h g = absurd f
@@ -58,16 +51,16 @@ cap-exactly n = go (leb n 256) refl
     go true e = le-ltb 256 n (leb-true n 256 e)
     go false e = lt-ltb 256 n (leb-false n 256 e)
 
-from-exactly : (raw : Float) → not_a_start raw ≡ is_unmet (start_from raw)
+from-exactly : (raw : Float) → not_a_start raw ≡ is_none (start_from raw)
 unfolding not_a_start no_number minus_one_or_less above_cap start_from is_start
 from-exactly raw = go (finite raw) refl
   where
-    by : (b c : Bool) → (not b || not c) ≡ is_unmet (cond (b && c) (At (truncated raw)) Unmet)
+    by : (b c : Bool) → (not b || not c) ≡ is_none (cond (b && c) (Some (truncated raw)) None)
     by true true = refl
     by true false = refl
     by false c = refl
 
-    go : (a : Bool) → finite raw ≡ a → (not a || le raw (neg one) || ltb 256 (truncated raw)) ≡ is_unmet (cond (a && lt (neg one) raw && leb (truncated raw) 256) (At (truncated raw)) Unmet)
+    go : (a : Bool) → finite raw ≡ a → (not a || le raw (neg one) || ltb 256 (truncated raw)) ≡ is_none (cond (a && lt (neg one) raw && leb (truncated raw) 256) (Some (truncated raw)) None)
     go false e = refl
     go true e = rw (low-exactly raw (subst T (sym e) tt), cap-exactly (truncated raw)) (by (lt (neg one) raw) (leb (truncated raw) 256))
 
@@ -107,37 +100,33 @@ module _ (test : ℕ → Bool) where
 
 -- ---- the search
 module _ (point : Point) (order : Order) where
-  trials-exactly : (trials_unmet point order || not_a_start (start_by_trials point order)) ≡ is_unmet (corrected point (trial_index point.modulus order.square (convergence_test point order)))
+  trials-exactly : (trials_unmet point order || not_a_start (start_by_trials point order)) ≡ is_none (corrected point (trial_index point.modulus order.square (convergence_test point order)))
   unfolding trials_unmet start_by_trials trial_index trials_taken corrected
   trials-exactly =
       let test = met_after point.modulus order.square (convergence_test point order) in
       ap (λ (b : Bool). b || not_a_start (start_by_trials point order)) (first-none test) ∙ go (leb (first_from test 30 1) 30)
     where
       go : (b : Bool) → let i = first_from (met_after point.modulus order.square (convergence_test point order)) 30 1 in
-          (not b || not_a_start (raw_start point (i + 1))) ≡ is_unmet (corrected point (cond b (At (i + 1)) Unmet))
+          (not b || not_a_start (raw_start point (i + 1))) ≡ is_none (corrected point (cond b (Some (i + 1)) None))
       go true = from-exactly _
       go false = refl
 
-  pub no-start-exactly : no_start point order ≡ is_unmet (start_of point order)
+  pub no-start-exactly : no_start point order ≡ is_none (start_of point order)
   unfolding no_start start_of by_recurrence
   no-start-exactly = go (lt threshold point.modulus) (le (convergence_test point order) one)
     where
       go : (a b : Bool) →
           cond a (not b && (trials_unmet point order || not_a_start (start_by_trials point order))) (not_a_start (formula_of point order.rotation))
-          ≡ is_unmet (cond a (cond b (At 1) (corrected point (trial_index point.modulus order.square (convergence_test point order)))) (start_from (formula_of point order.rotation)))
+          ≡ is_none (cond a (cond b (Some 1) (corrected point (trial_index point.modulus order.square (convergence_test point order)))) (start_from (formula_of point order.rotation)))
       go true true = refl
       go true false = trials-exactly
       go false b = from-exactly (formula_of point order.rotation)
 
 -- ---- the seeds
-abbrev pub is_refused : MillerSeeds → Bool
-is_refused (Pair m) = false
-is_refused (Refused r) = true
-
-pub refused-exactly : (point : Point) (order : Order) (coefficient : Complex) (alone : Bool) → no_start point order ≡ is_refused (seeds_of point order coefficient alone)
+pub refused-exactly : (point : Point) (order : Order) (coefficient : Complex) (alone : Bool) → no_start point order ≡ is_err (seeds_of point order coefficient alone)
 unfolding seeds_of seeds_at
 refused-exactly point order coefficient alone = no-start-exactly point order ∙ go (start_of point order)
   where
-    go : (s : Start) → is_unmet s ≡ is_refused (seeds_at point order coefficient alone s)
-    go (At k) = refl
-    go Unmet = refl
+    go : (s : Option ℕ) → is_none s ≡ is_err (seeds_at point order coefficient alone s)
+    go (Some k) = refl
+    go None = refl

@@ -9,16 +9,15 @@ use borrow.Author.Tests.{leb-true, leb-false}
 use lib.Dec.{leb}
 use lib.Ieee.{Float, neg, lt, le}
 use lib.Ieee.Scale.{finite}
+use Rattle.std.specs.Prelude.{Option, Some, None, Result, Ok, Err}
 use Rattle.laws.specs.Run.{first_from}
 use Rattle.laws.proofs.Run.{found}
 use Rattle.complex.specs.declared.number.Complex.{Complex}
 use Rattle.refusal.specs.declared.refusal.Refusal as refusals
 use Rattle.miller.specs.declared.point.Point.{Point}
 use Rattle.miller.specs.declared.point.Order.{Order}
-use Rattle.miller.specs.declared.search.Start.{Start}
-use Rattle.miller.specs.declared.search.Start.TheVariants.{At, Unmet}
-use Rattle.miller.specs.declared.seeds.MillerSeeds.{MillerSeeds}
-use Rattle.miller.specs.declared.seeds.MillerSeeds.TheVariants.{Pair, Refused}
+use Rattle.refusal.specs.declared.refusal.Refusal.{Refusal}
+use Rattle.miller.specs.declared.seeds.Miller.{Miller}
 use Rattle.machine.specs.Small.{one}
 use Rattle.miller.specs.Whole.{truncated}
 use Rattle.miller.specs.Point.{is_real}
@@ -28,30 +27,30 @@ use Rattle.miller.specs.Seeds.{real_seeds, complex_seeds, seeds_from, seeds_at, 
 use Rattle.miller.proofs.BackwardFacts.{real-steps-are-the-start, complex-steps-are-the-start}
 
 -- ---- a start is at most 256
-abbrev pub Small : Start → Type 0
-Small (At k) = k ≤ 256
-Small Unmet = Unit
+abbrev pub Small : Option ℕ → Type 0
+Small (Some k) = k ≤ 256
+Small None = Unit
 
 from-small : (raw : Float) → Small (start_from raw)
 unfolding start_from is_start
 from-small raw = go (finite raw) (lt (neg one) raw) (leb (truncated raw) 256) refl
   where
-    go : (a b c : Bool) → leb (truncated raw) 256 ≡ c → Small (cond (a && b && c) (At (truncated raw)) Unmet)
+    go : (a b c : Bool) → leb (truncated raw) 256 ≡ c → Small (cond (a && b && c) (Some (truncated raw)) None)
     go false b c e = tt
     go true false c e = tt
     go true true false e = tt
     go true true true e = leb-true (truncated raw) 256 e
 
-corrected-small : (point : Point) (s : Start) → Small (corrected point s)
+corrected-small : (point : Point) (s : Option ℕ) → Small (corrected point s)
 unfolding corrected
-corrected-small point (At k) = from-small (raw_start point k)
-corrected-small point Unmet = tt
+corrected-small point (Some k) = from-small (raw_start point k)
+corrected-small point None = tt
 
 recurrence-small : (point : Point) (order : Order) → Small (by_recurrence point order)
 unfolding by_recurrence
 recurrence-small point order = go (le (convergence_test point order) one) (trial_index point.modulus order.square (convergence_test point order))
   where
-    go : (b : Bool) (s : Start) → Small (cond b (At 1) (corrected point s))
+    go : (b : Bool) (s : Option ℕ) → Small (cond b (Some 1) (corrected point s))
     go true s = omega arith
     go false s = corrected-small point s
 
@@ -72,21 +71,21 @@ module _ (modulus square test : Float) where
     pub meets : met_after modulus square test i ≡ true
     pub before : (j : ℕ) → 1 ≤ j → j < i → met_after modulus square test j ≡ false
 
-  at-index : (i k : ℕ) → cond (leb i 30) (At (i + 1)) Unmet ≡ At k → (k ≡ i + 1) × (i ≤ 30)
+  at-index : (i k : ℕ) → cond (leb i 30) (Some (i + 1)) None ≡ Some k → (k ≡ i + 1) × (i ≤ 30)
   at-index i k e = go (leb i 30) refl e
     where
-      go : (b : Bool) → leb i 30 ≡ b → cond b (At (i + 1)) Unmet ≡ At k → (k ≡ i + 1) × (i ≤ 30)
+      go : (b : Bool) → leb i 30 ≡ b → cond b (Some (i + 1)) None ≡ Some k → (k ≡ i + 1) × (i ≤ 30)
       go true t h = (cc, leb-true i 30 t)
       go false t h = let z : ◌≡◌ {A = ℕ} 0 1 = cc in absurd (omega arith)
 
-  no_index : (i : ℕ) → cond (leb i 30) (At (i + 1)) Unmet ≡ Unmet → 30 < i
+  no_index : (i : ℕ) → cond (leb i 30) (Some (i + 1)) None ≡ None → 30 < i
   no_index i e = go (leb i 30) refl e
     where
-      go : (b : Bool) → leb i 30 ≡ b → cond b (At (i + 1)) Unmet ≡ Unmet → 30 < i
+      go : (b : Bool) → leb i 30 ≡ b → cond b (Some (i + 1)) None ≡ None → 30 < i
       go true t h = let z : ◌≡◌ {A = ℕ} 0 1 = cc in absurd (omega arith)
       go false t h = leb-false i 30 t
 
-  pub index-is-first : (k : ℕ) → trial_index modulus square test ≡ At k → (i : ℕ) × FirstMet k i
+  pub index-is-first : (k : ℕ) → trial_index modulus square test ≡ Some k → (i : ℕ) × FirstMet k i
   unfolding trial_index trials_taken
   index-is-first k e =
       let r = found (met_after modulus square test) 30 1 in
@@ -98,7 +97,7 @@ module _ (modulus square test : Float) where
       passed i h (inl e) = e
       passed i h (inr e) = absurd (omega arith)
 
-  pub unmet-by-all : trial_index modulus square test ≡ Unmet → (i : ℕ) → 1 ≤ i → i ≤ 30 → met_after modulus square test i ≡ false
+  pub unmet-by-all : trial_index modulus square test ≡ None → (i : ℕ) → 1 ≤ i → i ≤ 30 → met_after modulus square test i ≡ false
   unfolding trial_index trials_taken
   unmet-by-all e i l h =
       let r = found (met_after modulus square test) 30 1 in
@@ -115,14 +114,14 @@ backward-is-start point order coefficient alone start = go (is_real point.z)
     go false = complex-steps-are-the-start point.z order.distance start
 
 -- an outcome: a pair after at most 256 backward steps, or refusal 6
-abbrev pub Settled : MillerSeeds → Type 0
-Settled (Pair m) = m.backward ≤ 256
-Settled (Refused r) = r ≡ refusals.TheVariants.Start
+abbrev pub Settled : Result Miller Refusal → Type 0
+Settled (Ok m) = m.backward ≤ 256
+Settled (Err r) = r ≡ refusals.TheVariants.Start
 
 pub seeds-settled : (point : Point) (order : Order) (coefficient : Complex) (alone : Bool) → Settled (seeds_of point order coefficient alone)
 unfolding seeds_of seeds_at
 seeds-settled point order coefficient alone = go (start_of point order) (start_small point order)
   where
-    go : (s : Start) → Small s → Settled (seeds_at point order coefficient alone s)
-    go (At k) h = subst (λ (n : ℕ). n ≤ 256) (sym (backward-is-start point order coefficient alone k)) h
-    go Unmet h = refl
+    go : (s : Option ℕ) → Small s → Settled (seeds_at point order coefficient alone s)
+    go (Some k) h = subst (λ (n : ℕ). n ≤ 256) (sym (backward-is-start point order coefficient alone k)) h
+    go None h = refl

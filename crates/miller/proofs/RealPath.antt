@@ -5,11 +5,10 @@ use Prim.Native.Nat.{ℕ}
 use native.Mathlib.Nat.{zero-mul}
 use lib.IntN.{ℤ}
 use lib.Ieee.{Float, fin, binary64, of_bits, eq}
+use Rattle.std.specs.Prelude.{Option, Some, None}
 use Rattle.complex.specs.declared.number.Complex.{Complex}
 use Rattle.miller.specs.declared.point.Point.{Point}
 use Rattle.miller.specs.declared.point.Order.{Order}
-use Rattle.miller.specs.declared.search.Start.{Start}
-use Rattle.miller.specs.declared.search.Start.TheVariants.{At, Unmet}
 use Rattle.miller.specs.Point.{is_real, point_of}
 use Rattle.miller.specs.Search.{start_from, raw_start, corrected, convergence_test, by_recurrence, curve_of, precision_of, formula_of, start_of}
 use Rattle.miller.specs.Backward.{on_real_line}
@@ -33,10 +32,10 @@ module _ (p q : Point) (P : is_real p.z ≡ true) (Q : is_real q.z ≡ true) (x 
   unfolding raw_start
   raw_same k = simp (P, Q)
 
-  corrected-same : (s : Start) → corrected p s ≡ corrected q s
+  corrected-same : (s : Option ℕ) → corrected p s ≡ corrected q s
   unfolding corrected
-  corrected-same (At k) = ap start_from (raw_same k)
-  corrected-same Unmet = refl
+  corrected-same (Some k) = ap start_from (raw_same k)
+  corrected-same None = refl
 
   recurrence-same : (order : Order) → by_recurrence p order ≡ by_recurrence q order
   unfolding by_recurrence convergence_test
@@ -59,10 +58,10 @@ module _ (p q : Point) (P : is_real p.z ≡ true) (Q : is_real q.z ≡ true) (x 
     unfolding seeds_from
     from-same k = simp (P, Q, x)
 
-    at_same : (s : Start) → seeds_at p order coefficient alone s ≡ seeds_at q order coefficient alone s
+    at_same : (s : Option ℕ) → seeds_at p order coefficient alone s ≡ seeds_at q order coefficient alone s
     unfolding seeds_at
-    at_same (At k) = simp (from-same k)
-    at_same Unmet = refl
+    at_same (Some k) = simp (from-same k)
+    at_same None = refl
 
     real_same : seeds_of p order coefficient alone ≡ seeds_of q order coefficient alone
     unfolding seeds_of

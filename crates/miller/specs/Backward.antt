@@ -9,38 +9,37 @@ use Rattle.machine.specs.Small.{nothing, one, two}
 use Rattle.laws.specs.Operators.{◌⊕◌, ◌⊖◌, ◌⊗◌, ◌⊘◌}
 use Rattle.complex.specs.declared.number.Complex.{Complex}
 use Rattle.complex.specs.Arithmetic.{zero_pair, plus_of, minus_of, product_of, times_real, plus_real}
-use Rattle.miller.specs.declared.backward.RealSteps.{RealSteps}
-use Rattle.miller.specs.declared.backward.ComplexSteps.{ComplexSteps}
+use Rattle.miller.specs.declared.backward.Steps.{Steps}
 use Rattle.miller.specs.Trials.{whole}
 
 -- P2 of the loop to label 190: u(k-1) = (u(k) (z + k) 2 k - u(k+1) (k² + k)) / (k² - k + distance), the quotient by its reciprocal
 unfoldable pub share_of : Float → Float → Float
 share_of distance k = one ⊘ (k ⊗ k ⊖ k ⊕ distance)
 
-unfoldable pub real_next : Float → Float → RealSteps → Float
+unfoldable pub real_next : Float → Float → Steps Float → Float
 real_next x distance s =
     let k = s.k in
     (s.newer ⊗ ((x ⊕ k) ⊗ (two ⊗ k)) ⊖ s.older ⊗ (k ⊗ k ⊕ k)) ⊗ share_of distance k
 
-unfoldable pub real_step : Float → Float → RealSteps → RealSteps
+unfoldable pub real_step : Float → Float → Steps Float → Steps Float
 real_step x distance s =
     let next = real_next x distance s in
     record { older = s.newer; newer = next; sum = s.sum ⊕ next; k = s.k ⊖ one; steps = s.steps + 1 }
 
 -- P1 = 0, P2 = CS = TOL at label 180
-unfoldable pub real_first : ℕ → RealSteps
+unfoldable pub real_first : ℕ → Steps Float
 real_first start = record { older = nothing; newer = tolerance; sum = tolerance; k = whole start; steps = 0 }
 
-unfoldable pub real_steps : Float → Float → ℕ → RealSteps
+unfoldable pub real_steps : Float → Float → ℕ → Steps Float
 real_steps x distance start = iterate start (real_step x distance) (real_first start)
 
 -- the same with complex values: z + k adds to the real part alone, and real factors act on each part
-unfoldable pub complex_next : Complex → Float → ComplexSteps → Complex
+unfoldable pub complex_next : Complex → Float → Steps Complex → Complex
 complex_next z distance s =
     let k = s.k in
     times_real (minus_of (product_of s.newer (times_real (plus_real z k) (two ⊗ k))) (times_real s.older (k ⊗ k ⊕ k))) (share_of distance k)
 
-unfoldable pub complex_step : Complex → Float → ComplexSteps → ComplexSteps
+unfoldable pub complex_step : Complex → Float → Steps Complex → Steps Complex
 complex_step z distance s =
     let next = complex_next z distance s in
     record { older = s.newer; newer = next; sum = plus_of s.sum next; k = s.k ⊖ one; steps = s.steps + 1 }
@@ -48,7 +47,7 @@ complex_step z distance s =
 unfoldable pub on_real_line : Float → Complex
 on_real_line x = record { re = x; im = nothing }
 
-unfoldable pub complex_first : ℕ → ComplexSteps
+unfoldable pub complex_first : ℕ → Steps Complex
 complex_first start =
     record {
       older = zero_pair;
@@ -58,5 +57,5 @@ complex_first start =
       steps = 0;
     }
 
-unfoldable pub complex_steps : Complex → Float → ℕ → ComplexSteps
+unfoldable pub complex_steps : Complex → Float → ℕ → Steps Complex
 complex_steps z distance start = iterate start (complex_step z distance) (complex_first start)

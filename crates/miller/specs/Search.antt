@@ -1,6 +1,6 @@
 -- How many backward steps Miller's seeds begin with. ZBKNU, from 'COMPUTE R2=F(E)' to label 180; `determine_miller_starting_k` of
 -- src/amos/right_half_plane.rs, whose angle keeps its sign where ZBKNU takes the magnitude. Definitions only.
-use Rattle.std.specs.Prelude.{ℕ, Bool, cond, ◌&&◌, leb, Float}
+use Rattle.std.specs.Prelude.{ℕ, Bool, cond, ◌&&◌, leb, Option, Some, None, Float}
 use Rattle.std.specs.Float.{binary64}
 use Rattle.std.specs.Float.Ieee.{of_bits, neg, lt, le}
 use Rattle.std.specs.Float.Ieee.Scale.{finite}
@@ -12,8 +12,6 @@ use Rattle.logarithm.specs.Ln.{ln_of}
 use Rattle.circular.specs.Cos.{cos_of}
 use Rattle.miller.specs.declared.point.Point.{Point}
 use Rattle.miller.specs.declared.point.Order.{Order}
-use Rattle.miller.specs.declared.search.Start.{Start}
-use Rattle.miller.specs.declared.search.Start.TheVariants.{At, Unmet}
 use Rattle.miller.specs.Whole.{truncated}
 use Rattle.miller.specs.Point.{is_real}
 use Rattle.miller.specs.Trials.{whole, trial_index}
@@ -22,8 +20,8 @@ use Rattle.miller.specs.Trials.{whole, trial_index}
 unfoldable pub is_start : Float → Bool
 is_start raw = finite raw && lt (neg one) raw && leb (truncated raw) 256
 
-unfoldable pub start_from : Float → Start
-start_from raw = cond (is_start raw) (At (truncated raw)) Unmet
+unfoldable pub start_from : Float → Option ℕ
+start_from raw = cond (is_start raw) (Some (truncated raw)) None
 
 -- T2 before label 130: (2/3)·52 - 6 = 28.666666666666664
 unfoldable pub threshold : Float
@@ -37,19 +35,19 @@ angle_correction modulus angle = of_bits binary64 0x3FFE8EC8A4AEACC4 ⊗ angle �
 unfoldable pub raw_start : Point → ℕ → Float
 raw_start point index = cond (is_real point.z) (whole index) (whole index ⊕ angle_correction point.modulus point.angle)
 
-unfoldable pub corrected : Point → Start → Start
-corrected point (At index) = start_from (raw_start point index)
-corrected point Unmet = Unmet
+unfoldable pub corrected : Point → Option ℕ → Option ℕ
+corrected point (Some index) = start_from (raw_start point index)
+corrected point None = None
 
 -- ETEST behind label 140: |cos(π fraction)| / (π |z| 2^-52), with π as 3.141592653589793
 unfoldable pub convergence_test : Point → Order → Float
 convergence_test point order = order.rotation ⊘ (of_bits binary64 0x400921FB54442D18 ⊗ point.modulus ⊗ tolerance)
 
 -- a test of at most 1 is met with no trial, and takes no correction: IF (ETEST.LT.CONER) GO TO 180, where ZBKNU has 1 itself tried
-unfoldable pub by_recurrence : Point → Order → Start
+unfoldable pub by_recurrence : Point → Order → Option ℕ
 by_recurrence point order =
     let test = convergence_test point order in
-    cond (le test one) (At 1) (corrected point (trial_index point.modulus order.square test))
+    cond (le test one) (Some 1) (corrected point (trial_index point.modulus order.square test))
 
 -- |z| / (1 + 0.008 |z|), for a factor of |z| put in
 unfoldable pub flattened : Float → Float → Float
@@ -75,5 +73,5 @@ formula_of point rotation =
     of_bits binary64 0x3FBF0A3D70A3D70A ⊗ (height ⊗ height) ⊘ point.modulus ⊕ of_bits binary64 0x3FF8000000000000
 
 -- the trials above the threshold, the formula up to it (IF (T2.GT.CAZ) GO TO 170)
-unfoldable pub start_of : Point → Order → Start
+unfoldable pub start_of : Point → Order → Option ℕ
 start_of point order = cond (lt threshold point.modulus) (by_recurrence point order) (start_from (formula_of point order.rotation))

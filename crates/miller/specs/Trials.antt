@@ -1,6 +1,6 @@
 -- The trials of the start search above its threshold: a forward recurrence, until it is large enough. ZBKNU, 'FORWARD RECURRENCE LOOP',
 -- labels 150 and 160; `determine_miller_starting_k` of src/amos/right_half_plane.rs. Definitions only.
-use Rattle.std.specs.Prelude.{ℕ, zero, suc, ◌+◌, ◌*◌, Bool, cond, pos, leb, Float}
+use Rattle.std.specs.Prelude.{ℕ, zero, suc, ◌+◌, ◌*◌, Bool, cond, pos, leb, Option, Some, None, Float}
 use Rattle.std.specs.Float.{binary64}
 use Rattle.std.specs.Float.Ieee.{of_int, lt}
 use Rattle.laws.specs.Run.{first_from}
@@ -8,8 +8,6 @@ use Rattle.laws.specs.Operators.{◌⊕◌, ◌⊖◌, ◌⊗◌, ◌⊘◌}
 use Rattle.machine.specs.Small.{nothing, half, one, two}
 use Rattle.machine.specs.Magnitude.{magnitude_of}
 use Rattle.miller.specs.declared.trials.Trial.{Trial}
-use Rattle.miller.specs.declared.search.Start.{Start}
-use Rattle.miller.specs.declared.search.Start.TheVariants.{At, Unmet}
 
 -- a whole number as a float
 abbrev pub whole : ℕ → Float
@@ -42,5 +40,5 @@ unfoldable pub trials_taken : Float → Float → Float → ℕ
 trials_taken modulus square test = first_from (met_after modulus square test) 30 1
 
 -- FK at label 160: the index found is one more than that trial's number
-unfoldable pub trial_index : Float → Float → Float → Start
-trial_index modulus square test = let i = trials_taken modulus square test in cond (leb i 30) (At (i + 1)) Unmet
+unfoldable pub trial_index : Float → Float → Float → Option ℕ
+trial_index modulus square test = let i = trials_taken modulus square test in cond (leb i 30) (Some (i + 1)) None

@@ -3,115 +3,74 @@
 // itself, so the count is the start.
 ghost use Rattle.std.specs.Prelude.{◌≡◌, ◌+◌, ◌-◌, ◌≤◌, ◌<◌, ◌^◌};
 ghost use Rattle.laws.specs.Iterate.{iterate};
-ghost use Rattle.miller.specs.Backward.{real_step, real_steps, complex_next, complex_first, complex_step, complex_steps};
+ghost use Rattle.miller.specs.Backward.{real_steps, complex_next, complex_step, complex_steps};
+ghost use Rattle.miller.specs.shapes.Steps.{step_of, first_of, steps_of};
 
+use crate::amount::Amount;
 use complex::number::Complex;
 use machine::constants::Machine;
 
+// The last two values, the sum so far, the index of the next step and how many were taken.
 #[derive(Clone, Copy)]
-pub struct RealSteps {
-    pub older: f64,
-    pub newer: f64,
-    pub sum: f64,
+pub struct Steps<T> {
+    pub older: T,
+    pub newer: T,
+    pub sum: T,
     pub k: f64,
     pub steps: u32,
 }
 
-fn real_step(x: f64, distance: f64, s: RealSteps) -> RealSteps
+fn step<T: Amount>(z: T, distance: f64, s: Steps<T>) -> Steps<T>
     requires { s.steps + 1 < 2 ^ 32 }
-    ensures { result ≡ real_step x distance s }
+    ensures { result ≡ step_of T.does z distance s }
 {
     let k = s.k;
-    let square = k * k;
-    let share = 1.0 / (square - k + distance);
-    let next = (s.newer * ((x + k) * (2.0 * k)) - s.older * (square + k)) * share;
-    RealSteps {
-        older: s.newer,
-        newer: next,
-        sum: s.sum + next,
-        k: k - 1.0,
-        steps: s.steps + 1,
-    }
-}
-
-pub fn real_steps(x: f64, distance: f64, start: u32) -> RealSteps
-    ensures { result ≡ real_steps x distance start }
-{
-    let mut s = RealSteps {
-        older: 0.0,
-        newer: Machine::TOLERANCE,
-        sum: Machine::TOLERANCE,
-        k: start as f64,
-        steps: 0,
-    };
-    while s.steps < start {
-        s = real_step(x, distance, s);
-    }
-    s
-}
-
-#[derive(Clone, Copy)]
-pub struct ComplexSteps {
-    pub older: Complex,
-    pub newer: Complex,
-    pub sum: Complex,
-    pub k: f64,
-    pub steps: u32,
-}
-
-fn complex_step(z: Complex, distance: f64, s: ComplexSteps) -> ComplexSteps
-    requires { s.steps + 1 < 2 ^ 32 }
-    ensures { result ≡ complex_step z distance s }
-{
-    let k = s.k;
-    let older = s.older;
-    let newer = s.newer;
-    let sum = s.sum;
     let square = k * k;
     let share = 1.0 / (square - k + distance);
     let factor = z.plus_real(k).times_real(2.0 * k);
-    let next = newer
+    let next = s
+        .newer
         .product(factor)
-        .minus(older.times_real(square + k))
+        .minus(s.older.times_real(square + k))
         .times_real(share);
-    ComplexSteps {
-        older: newer,
+    Steps {
+        older: s.newer,
         newer: next,
-        sum: sum.plus(next),
+        sum: s.sum.plus(next),
         k: k - 1.0,
         steps: s.steps + 1,
     }
 }
 
-fn complex_first(start: u32) -> ComplexSteps
-    ensures { result ≡ complex_first start }
+fn first<T: Amount>(start: u32) -> Steps<T>
+    ensures { result ≡ first_of T.does start }
 {
-    ComplexSteps {
-        older: Complex { re: 0.0, im: 0.0 },
-        newer: Complex {
-            re: Machine::TOLERANCE,
-            im: 0.0,
-        },
-        sum: Complex {
-            re: Machine::TOLERANCE,
-            im: 0.0,
-        },
+    Steps {
+        older: T::from_real(0.0),
+        newer: T::from_real(Machine::TOLERANCE),
+        sum: T::from_real(Machine::TOLERANCE),
         k: start as f64,
         steps: 0,
     }
 }
 
-fn plain_steps(z: Complex, distance: f64, start: u32) -> ComplexSteps
-    ensures { result ≡ complex_steps z distance start }
+fn all_steps<T: Amount>(z: T, distance: f64, start: u32) -> Steps<T>
+    ensures { result ≡ steps_of T.does z distance start }
 {
-    let mut s = complex_first(start);
-    while s.steps < start {
-        s = complex_step(z, distance, s);
+    let mut s = first(start);
+    for _ in 0..start {
+        s = step(z, distance, s);
     }
     s
 }
 
-fn real_part(z: Complex, distance: f64, s: ComplexSteps) -> f64
+pub fn real_steps(x: f64, distance: f64, start: u32) -> Steps<f64>
+    ensures { result ≡ real_steps x distance start }
+{
+    all_steps(x, distance, start)
+}
+
+fn real_part(z: Complex, distance: f64, s: Steps<Complex>) -> f64
     ensures { result ≡ (complex_next z distance s).re }
 {
     let k = s.k;
@@ -122,7 +81,7 @@ fn real_part(z: Complex, distance: f64, s: ComplexSteps) -> f64
     (product - older.re * (square + k)) * (1.0 / (square - k + distance))
 }
 
-fn with_real_part(z: Complex, distance: f64, s: ComplexSteps, re: f64) -> ComplexSteps
+fn with_real_part(z: Complex, distance: f64, s: Steps<Complex>, re: f64) -> Steps<Complex>
     requires { (s.steps + 1 < 2 ^ 32) × (re ≡ (complex_next z distance s).re) }
     ensures { result ≡ complex_step z distance s }
 {
@@ -133,7 +92,7 @@ fn with_real_part(z: Complex, distance: f64, s: ComplexSteps, re: f64) -> Comple
     let square = k * k;
     let product = newer.re * (z.im * (2.0 * k)) + newer.im * ((z.re + k) * (2.0 * k));
     let im = (product - older.im * (square + k)) * (1.0 / (square - k + distance));
-    ComplexSteps {
+    Steps {
         older: newer,
         newer: Complex { re, im },
         sum: Complex {
@@ -145,12 +104,12 @@ fn with_real_part(z: Complex, distance: f64, s: ComplexSteps, re: f64) -> Comple
     }
 }
 
-fn last_step(z: Complex, distance: f64, start: u32, s: ComplexSteps) -> ComplexSteps
+fn last_step(z: Complex, distance: f64, start: u32, s: Steps<Complex>) -> Steps<Complex>
     requires { (s.steps ≤ start) × (start ≤ s.steps + 1) }
     ensures { result ≡ iterate (start - s.steps) (complex_step z distance) s }
 {
     if s.steps < start {
-        return complex_step(z, distance, s);
+        return step(z, distance, s);
     }
     s
 }
@@ -158,23 +117,23 @@ fn last_step(z: Complex, distance: f64, start: u32, s: ComplexSteps) -> ComplexS
 // Two steps a turn, so that no value is moved from one place to another. The tests between a real and an imaginary part keep the compiler
 // from pairing the two, which would put shuffles between one step and the next; what they find is no number in the end, whichever way it is
 // reached.
-pub fn complex_steps(z: Complex, distance: f64, start: u32) -> ComplexSteps
+pub fn complex_steps(z: Complex, distance: f64, start: u32) -> Steps<Complex>
     ensures { result ≡ complex_steps z distance start }
 {
-    let mut s = complex_first(start);
-    while start - s.steps > 1 {
+    let mut s = first(start);
+    for _ in 0..start / 2 {
         let re = real_part(z, distance, s);
         let sum = s.sum;
         let sum_re = sum.re + re;
         if sum_re != sum_re {
-            return plain_steps(z, distance, start);
+            return all_steps(z, distance, start);
         }
         let t = with_real_part(z, distance, s, re);
         let next_re = real_part(z, distance, t);
         let next_sum = t.sum;
         let next_sum_re = next_sum.re + next_re;
         if next_sum_re != next_sum_re {
-            return plain_steps(z, distance, start);
+            return all_steps(z, distance, start);
         }
         s = with_real_part(z, distance, t, next_re);
     }

@@ -7,28 +7,20 @@ ghost use Rattle.miller.specs.shapes.Correction.{correction_of};
 
 use crate::point::{Order, Point, is_real};
 use crate::trials::trial_index;
-use crate::whole::whole_part;
 use circular::cos::cos;
 use logarithm::ln::ln;
 use machine::constants::Machine;
 use roots::sqrt::sqrt;
+use std::num::saturating_f64_to_u32;
 
-#[derive(Clone, Copy)]
-pub enum Start {
-    At(u32),
-    // no trial passed, or what was found is no start: not finite, not above -1, or beyond 256 without its fraction
-    Unmet,
-}
-
-fn start_from(raw: f64) -> Start
+// None where the value is no start: not finite, not above -1, or beyond 256 without its fraction.
+fn start_from(raw: f64) -> Option<u32>
     ensures { result ≡ start_from raw }
 {
-    if raw > -1.0 {
-        if raw < 257.0 {
-            return Start::At(whole_part(raw));
-        }
+    if raw > -1.0 && raw < 257.0 {
+        return Some(saturating_f64_to_u32(raw));
     }
-    Start::Unmet
+    None
 }
 
 // (2/3)·52 - 6
@@ -63,20 +55,17 @@ fn raw_start(point: Point, index: u32, added: f64) -> f64
 }
 
 // The correction does not depend on the trials: it stands before them, so that its root is taken while they run.
-fn by_recurrence(point: Point, order: Order) -> Start
+fn by_recurrence(point: Point, order: Order) -> Option<u32>
     ensures { result ≡ by_recurrence point order }
 {
     let modulus = point.modulus;
     let test = order.rotation / (3.141592653589793 * modulus * Machine::TOLERANCE);
     if test <= 1.0 {
-        return Start::At(1);
+        return Some(1);
     }
     let added = correction(point);
-    let found = trial_index(modulus, order.square, test);
-    match found {
-        Start::At(index) => start_from(raw_start(point, index, added)),
-        Start::Unmet => Start::Unmet,
-    }
+    let index = trial_index(modulus, order.square, test)?;
+    start_from(raw_start(point, index, added))
 }
 
 fn curve(point: Point, precision: f64) -> f64
@@ -99,7 +88,8 @@ fn formula(point: Point, rotation: f64) -> f64
     0.12125 * (height * height) / point.modulus + 1.5
 }
 
-pub fn search(point: Point, order: Order) -> Start
+// None where no trial passed, or what was found is no start.
+pub fn search(point: Point, order: Order) -> Option<u32>
     ensures { result ≡ start_of point order }
 {
     if point.modulus > THRESHOLD {

@@ -5,9 +5,8 @@ ghost use Rattle.std.specs.Prelude.{◌≡◌};
 ghost use Rattle.miller.specs.Seeds.{real_second, real_seeds, complex_seeds, seeds_from, seeds_at};
 ghost use Rattle.miller.specs.shapes.Ratio.{ratio_unless, product_unless};
 
-use crate::backward::{ComplexSteps, RealSteps, complex_steps, real_steps};
+use crate::backward::{Steps, complex_steps, real_steps};
 use crate::point::{Order, Point, is_real};
-use crate::search::Start;
 use complex::number::Complex;
 use machine::magnitude::magnitude;
 use refusal::refusal::Refusal;
@@ -19,14 +18,8 @@ pub struct Miller {
     pub backward: u32,
 }
 
-#[derive(Clone, Copy)]
-pub enum MillerSeeds {
-    Pair(Miller),
-    Refused(Refusal),
-}
-
 // Where one value alone is asked for, the second seed is 0.
-fn real_second(alone: bool, x: f64, fraction: f64, s: RealSteps, first: f64) -> f64
+fn real_second(alone: bool, x: f64, fraction: f64, s: Steps<f64>, first: f64) -> f64
     ensures { result ≡ real_second alone x fraction s first }
 {
     if alone {
@@ -55,7 +48,7 @@ fn real_seeds(x: f64, order: Order, coefficient: f64, alone: bool, start: u32) -
 }
 
 // What the first seed is multiplied with for the second.
-fn complex_ratio(alone: bool, z: Complex, fraction: f64, s: ComplexSteps) -> Complex
+fn complex_ratio(alone: bool, z: Complex, fraction: f64, s: Steps<Complex>) -> Complex
     ensures { result ≡ ratio_unless alone z fraction s }
 {
     if alone {
@@ -115,12 +108,10 @@ pub fn seeds_at(
     order: Order,
     coefficient: Complex,
     alone: bool,
-    found: Start,
-) -> MillerSeeds
+    found: Option<u32>,
+) -> Result<Miller, Refusal>
     ensures { result ≡ seeds_at point order coefficient alone found }
 {
-    match found {
-        Start::At(start) => MillerSeeds::Pair(seeds_from(point, order, coefficient, alone, start)),
-        Start::Unmet => MillerSeeds::Refused(Refusal::Start),
-    }
+    let start = found.ok_or(Refusal::Start)?;
+    Ok(seeds_from(point, order, coefficient, alone, start))
 }

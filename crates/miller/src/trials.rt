@@ -3,7 +3,6 @@
 ghost use Rattle.std.specs.Prelude.{◌≡◌, ◌≤◌};
 ghost use Rattle.miller.specs.Trials.{next_trial, is_met, trial_index};
 
-use crate::search::Start;
 use machine::magnitude::magnitude;
 
 // The last two values of the recurrence.
@@ -38,23 +37,19 @@ fn is_met(test: f64, i: u32, p: f64) -> bool
     test < magnitude(p) * (i + 1) as f64
 }
 
-pub fn trial_index(modulus: f64, square: f64, test: f64) -> Start
+// One more than the first trial that meets the test.
+pub fn trial_index(modulus: f64, square: f64, test: f64) -> Option<u32>
     ensures { result ≡ trial_index modulus square test }
 {
     let mut trial = Trial {
         older: 0.0,
         newer: 1.0,
     };
-    let mut i: u32 = 0;
-    let index = loop {
-        if i == 30 {
-            return Start::Unmet;
-        }
-        i += 1;
+    for i in 1..=30 {
         trial = next_trial(modulus, square, i, trial);
         if is_met(test, i, trial.newer) {
-            break i + 1;
+            return Some(i + 1);
         }
-    };
-    Start::At(index)
+    }
+    None
 }

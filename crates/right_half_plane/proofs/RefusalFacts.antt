@@ -4,7 +4,7 @@ use mathlib.Core.Logic.{◌⊎◌, inl, inr}
 use mathlib.Core.Bool.{Bool, true, false, not, ◌&&◌, ◌||◌, cond}
 use Prim.Native.Nat.{ℕ, ◌+◌}
 use native.Mathlib.Omega.{arith}
-use Rattle.std.specs.Prelude.{Result, Ok, Err}
+use Rattle.std.specs.Prelude.{Result, Ok, Err, is_err}
 use lib.Dec.{eqb}
 use lib.Ieee.{Float, le}
 use Rattle.machine.specs.Small.{two}
@@ -21,10 +21,10 @@ use Rattle.recurrence.specs.declared.search.Rule.TheVariants.{OutOfUnderflow}
 use Rattle.recurrence.specs.declared.state.OverflowState.TheVariants.{NearUnder}
 use Rattle.recurrence.specs.declared.state.Climb.{Climb}
 use Rattle.recurrence.proofs.SearchFacts.{search-ends}
-use Rattle.miller.specs.declared.seeds.MillerSeeds as found
+use Rattle.miller.specs.declared.seeds.Miller.{Miller}
 use Rattle.miller.specs.NoStart.{no_start}
 use Rattle.miller.specs.Seeds as miller
-use Rattle.miller.proofs.NoStartFacts.{is_refused, refused-exactly}
+use Rattle.miller.proofs.NoStartFacts.{refused-exactly}
 use Rattle.right_half_plane.specs.declared.ground.Ground.{Ground}
 use Rattle.right_half_plane.specs.declared.seeds.Seeds.{Seeds}
 use Rattle.right_half_plane.specs.declared.seeds.Seeds.TheVariants as seeds
@@ -50,16 +50,12 @@ refuses refusal (Ok c) = false
 refuses refusal (Err r) = eqb (number_of r) (number_of refusal)
 
 -- ---- the seed stage
-abbrev unseeded : Result Seeded Refusal → Bool
-unseeded (Ok s) = false
-unseeded (Err refusal) = true
-
-miller-seeded : (u : Bool) (m : found.MillerSeeds) → unseeded (miller_seeds u m) ≡ is_refused m
+miller-seeded : (u : Bool) (m : Result Miller Refusal) → is_err (miller_seeds u m) ≡ is_err m
 unfolding miller_seeds
-miller-seeded u (found.TheVariants.Pair m) = refl
-miller-seeded u (found.TheVariants.Refused r) = refl
+miller-seeded u (Ok m) = refl
+miller-seeded u (Err r) = refl
 
-seed-exactly : (g : Ground) (scaled : Bool) → start_refused g ≡ unseeded (seed_of g scaled)
+seed-exactly : (g : Ground) (scaled : Bool) → start_refused g ≡ is_err (seed_of g scaled)
 unfolding start_refused takes_miller seed_of is_near other_seeds
 seed-exactly g scaled = go (is_half g.fraction) (le g.modulus two)
   where
@@ -69,13 +65,13 @@ seed-exactly g scaled = go (is_half g.fraction) (le g.modulus two)
     value : Complex
     value = coefficient_of scaled underflow g.z (sqrt_of g.modulus) (argument_of g.z)
 
-    m : found.MillerSeeds
+    m : Result Miller Refusal
     m = miller.seeds_of (point_with g.z g.modulus (sqrt_of g.modulus) (argument_of g.z)) (order_of g.fraction g.square) value (is_alone g)
 
     none : Bool
     none = no_start (point_with g.z g.modulus (sqrt_of g.modulus) (argument_of g.z)) (order_of g.fraction g.square)
 
-    go : (a b : Bool) → ((not a && not b) && none) ≡ unseeded (cond (not a && b) (Ok (temme_seeds g scaled)) (cond a (Ok (half_seeds underflow value)) (miller_seeds underflow m)))
+    go : (a b : Bool) → ((not a && not b) && none) ≡ is_err (cond (not a && b) (Ok (temme_seeds g scaled)) (cond a (Ok (half_seeds underflow value)) (miller_seeds underflow m)))
     go true true = refl
     go true false = refl
     go false true = refl
@@ -153,7 +149,7 @@ module _ (g : Ground) (s : Seeded) where
 
 -- ---- the kernel of a call
 module _ (g : Ground) where
-  seeded-start : (r : Result Seeded Refusal) → Stages g r → refuses refusals.Start (seeded_kernel g r).ending ≡ unseeded r
+  seeded-start : (r : Result Seeded Refusal) → Stages g r → refuses refusals.Start (seeded_kernel g r).ending ≡ is_err r
   unfolding seeded_kernel refused_kernel
   seeded-start (Ok s) e = seeds-start g s s.seeds
   seeded-start (Err refusal) e = rw e

@@ -16,7 +16,7 @@ use Rattle.recurrence.specs.declared.state.OverflowState.TheVariants.{None}
 use Rattle.temme.specs.declared.seeds.Temme.{Temme}
 use Rattle.temme.specs.Seeds.{seeds_of}
 use Rattle.temme.proofs.TemmeBound.{seeds-terms}
-use Rattle.miller.specs.declared.seeds.MillerSeeds as found
+use Rattle.miller.specs.declared.seeds.Miller.{Miller}
 use Rattle.miller.specs.Seeds as miller
 use Rattle.miller.proofs.Outcome.{Settled, seeds-settled}
 use Rattle.right_half_plane.specs.declared.ground.Ground.{Ground}
@@ -53,10 +53,10 @@ temme-seeding g scaled = go (is_alone g) refl
     go true e = record { kind = e; backward = zero-le }
     go false e = record { kind = tt; backward = zero-le }
 
-miller-seeding : (g : Ground) (underflow : Bool) (m : found.MillerSeeds) → Settled m → Stages g (miller_seeds underflow m)
+miller-seeding : (g : Ground) (underflow : Bool) (m : Result Miller Refusal) → Settled m → Stages g (miller_seeds underflow m)
 unfolding miller_seeds
-miller-seeding g underflow (found.TheVariants.Pair m) h = record { kind = tt; backward = h }
-miller-seeding g underflow (found.TheVariants.Refused refusal) h = h
+miller-seeding g underflow (Ok m) h = record { kind = tt; backward = h }
+miller-seeding g underflow (Err refusal) h = h
 
 other-seeding : (g : Ground) (scaled : Bool) → Stages g (other_seeds g scaled)
 unfolding other_seeds half_seeds
@@ -68,7 +68,7 @@ other-seeding g scaled = go (is_half g.fraction)
     value : Complex
     value = coefficient_of scaled underflow g.z (sqrt_of g.modulus) (argument_of g.z)
 
-    m : found.MillerSeeds
+    m : Result Miller Refusal
     m = miller.seeds_of (point_with g.z g.modulus (sqrt_of g.modulus) (argument_of g.z)) (order_of g.fraction g.square) value (is_alone g)
 
     go : (b : Bool) → Stages g (cond b (Ok (half_seeds underflow value)) (miller_seeds underflow m))
@@ -84,10 +84,10 @@ seeding g scaled = go (is_near g)
     go false = other-seeding g scaled
 
 -- ---- Temme's sum, when it is begun, ends by its own test by the term 18
-miller-terms : (u : Bool) (m : found.MillerSeeds) → terms_of (miller_seeds u m) ≤ 18
+miller-terms : (u : Bool) (m : Result Miller Refusal) → terms_of (miller_seeds u m) ≤ 18
 unfolding miller_seeds terms_of
-miller-terms u (found.TheVariants.Pair m) = zero-le
-miller-terms u (found.TheVariants.Refused refusal) = zero-le
+miller-terms u (Ok m) = zero-le
+miller-terms u (Err refusal) = zero-le
 
 other-terms : (g : Ground) (scaled : Bool) → terms_of (other_seeds g scaled) ≤ 18
 unfolding other_seeds half_seeds terms_of
@@ -99,7 +99,7 @@ other-terms g scaled = go (is_half g.fraction)
     value : Complex
     value = coefficient_of scaled underflow g.z (sqrt_of g.modulus) (argument_of g.z)
 
-    m : found.MillerSeeds
+    m : Result Miller Refusal
     m = miller.seeds_of (point_with g.z g.modulus (sqrt_of g.modulus) (argument_of g.z)) (order_of g.fraction g.square) value (is_alone g)
 
     go : (b : Bool) → terms_of (cond b (Ok (half_seeds underflow value)) (miller_seeds underflow m)) ≤ 18

@@ -19,7 +19,7 @@ use Rattle.roots.specs.Sqrt.{sqrt_of}
 use Rattle.temme.specs.Begun.{total_of, MadeOf, EndByTests}
 use Rattle.temme.proofs.BegunEnds.{made_of, begun-end}
 use Rattle.refusal.specs.declared.refusal.Refusal.{Refusal}
-use Rattle.miller.specs.declared.seeds.MillerSeeds as found
+use Rattle.miller.specs.declared.seeds.Miller.{Miller}
 use Rattle.miller.specs.Seeds as miller
 use Rattle.right_half_plane.specs.declared.ground.Ground.{Ground}
 use Rattle.right_half_plane.specs.declared.seeds.Seeded.{Seeded}
@@ -69,10 +69,10 @@ near-ends scaled order z modulus n F p e =
     }
 
 -- ---- any other branch: no term, and no log-gamma
-miller-none : (u : Bool) (m : found.MillerSeeds) → terms_of (miller_seeds u m) ≡ 0
+miller-none : (u : Bool) (m : Result Miller Refusal) → terms_of (miller_seeds u m) ≡ 0
 unfolding miller_seeds terms_of
-miller-none u (found.TheVariants.Pair m) = refl
-miller-none u (found.TheVariants.Refused refusal) = refl
+miller-none u (Ok m) = refl
+miller-none u (Err refusal) = refl
 
 other_none : (g : Ground) (scaled : Bool) → terms_of (other_seeds g scaled) ≡ 0
 unfolding other_seeds half_seeds terms_of
@@ -84,7 +84,7 @@ other_none g scaled = go (is_half g.fraction)
     value : Complex
     value = coefficient_of scaled underflow g.z (sqrt_of g.modulus) (argument_of g.z)
 
-    m : found.MillerSeeds
+    m : Result Miller Refusal
     m = miller.seeds_of (point_with g.z g.modulus (sqrt_of g.modulus) (argument_of g.z)) (order_of g.fraction g.square) value (is_alone g)
 
     go : (b : Bool) → terms_of (cond b (Ok (half_seeds underflow value)) (miller_seeds underflow m)) ≡ 0

@@ -18,7 +18,7 @@ use Rattle.recurrence.specs.declared.state.OverflowState.TheVariants.{NearUnder,
 use Rattle.miller.specs.declared.point.Point.{Point}
 use Rattle.miller.specs.declared.point.Order.{Order}
 use Rattle.miller.specs.Point.{is_real, point_of}
-use Rattle.miller.specs.declared.seeds.MillerSeeds as found
+use Rattle.miller.specs.declared.seeds.Miller.{Miller}
 use Rattle.miller.specs.Seeds as miller
 use Rattle.refusal.specs.declared.refusal.Refusal.{Refusal}
 use Rattle.right_half_plane.specs.declared.ground.Ground.{Ground}
@@ -52,10 +52,10 @@ coefficient_of scaled underflow z root angle =
 unfoldable pub far_state : Bool → OverflowState
 far_state underflow = cond underflow NearUnder None
 
-unfoldable pub miller_seeds : Bool → found.MillerSeeds → Result Seeded Refusal
-miller_seeds underflow (found.TheVariants.Pair m) =
+unfoldable pub miller_seeds : Bool → Result Miller Refusal → Result Seeded Refusal
+miller_seeds underflow (Ok m) =
     Ok (record { seeds = Pair m.first m.second; state = far_state underflow; underflow = underflow; terms = 0; backward = m.backward })
-miller_seeds underflow (found.TheVariants.Refused refusal) = Err refusal
+miller_seeds underflow (Err refusal) = Err refusal
 
 unfoldable pub half_seeds : Bool → Complex → Seeded
 half_seeds underflow value = record { seeds = Pair value value; state = far_state underflow; underflow = underflow; terms = 0; backward = 0 }

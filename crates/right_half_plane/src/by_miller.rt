@@ -14,7 +14,7 @@ use machine::constants::Machine;
 use machine::magnitude::magnitude;
 use miller::point::{Order, Point, at, is_real};
 use miller::search::search;
-use miller::seeds::{MillerSeeds, seeds_at};
+use miller::seeds::{Miller, seeds_at};
 use recurrence::state::OverflowState;
 use refusal::refusal::Refusal;
 use roots::sqrt::sqrt;
@@ -96,19 +96,17 @@ fn far_state(underflow: bool) -> OverflowState
 }
 
 #[tactic(auto, unfolding(crate::specs::ByMiller::miller_seeds))]
-fn miller_seeds(underflow: bool, found: MillerSeeds) -> Result<Seeded, Refusal>
+fn miller_seeds(underflow: bool, found: Result<Miller, Refusal>) -> Result<Seeded, Refusal>
     ensures { result ≡ miller_seeds underflow found }
 {
-    match found {
-        MillerSeeds::Pair(m) => Ok(Seeded {
-            seeds: Seeds::Pair(m.first, m.second),
-            state: far_state(underflow),
-            underflow,
-            terms: 0,
-            backward: m.backward,
-        }),
-        MillerSeeds::Refused(refusal) => Err(refusal),
-    }
+    let m = found?;
+    Ok(Seeded {
+        seeds: Seeds::Pair(m.first, m.second),
+        state: far_state(underflow),
+        underflow,
+        terms: 0,
+        backward: m.backward,
+    })
 }
 
 #[tactic(auto, unfolding(crate::specs::ByMiller::half_seeds))]

@@ -29,17 +29,12 @@ pub fn seeds(
     ensures { result ≡ seeds_of z modulus ln_two_over_z fraction fraction_square }
 {
     let h = exp_cosh_sinh(ln_two_over_z.times_real(fraction));
-    let exp = h.exp;
-    let cosh = h.cosh;
-    let sinh = h.sinh;
-    let shinc = over_fraction(ln_two_over_z, sinh, fraction);
-    let begun = start(gammas_at(fraction, fraction_square), exp, cosh, shinc);
+    let shinc = over_fraction(ln_two_over_z, h.sinh, fraction);
+    let begun = start(gammas_at(fraction, fraction_square), h.exp, h.cosh, shinc);
     let s = summed(z, modulus, fraction, fraction_square, begun);
-    let first = s.sum_k_nu;
-    let second = s.sum_k_nu_plus_1;
     Temme {
-        first,
-        second,
+        first: s.sum_k_nu,
+        second: s.sum_k_nu_plus_1,
         shinc,
         terms: s.terms,
     }
@@ -63,19 +58,13 @@ fn start(g: Gammas, exp: Complex, cosh: Complex, shinc: Complex) -> Terms
         .times_real(g.difference)
         .plus(shinc.times_real(g.mean))
         .times_real(g.one_over_sinc);
-    if g.plus == 1.0 {
-        if g.minus == 1.0 {
-            if exp.re == 1.0 {
-                if exp.im == 0.0 {
-                    let neg_order_term = Complex {
-                        re: 0.5,
-                        im: exp.im,
-                    };
-                    let pos_order_term = Complex { re: 0.5, im: 0.0 };
-                    return begun(temme_coeff, neg_order_term, pos_order_term);
-                }
-            }
-        }
+    if g.plus == 1.0 && g.minus == 1.0 && exp.re == 1.0 && exp.im == 0.0 {
+        let neg_order_term = Complex {
+            re: 0.5,
+            im: exp.im,
+        };
+        let pos_order_term = Complex { re: 0.5, im: 0.0 };
+        return begun(temme_coeff, neg_order_term, pos_order_term);
     }
     let neg_order_term = exp.times_real(0.5).over_real(g.plus);
     let pos_order_term = real_over(0.5, exp).over_real(g.minus);

@@ -15,10 +15,7 @@ pub struct Reciprocals {
 fn is_whole(fraction: f64, fraction_square: f64) -> bool
     ensures { result ≡ is_whole fraction fraction_square }
 {
-    if fraction == 0.0 {
-        return fraction_square == 0.0;
-    }
-    false
+    fraction == 0.0 && fraction_square == 0.0
 }
 
 fn share(terms: u32) -> f64

@@ -37,34 +37,26 @@ fn next(g: Fixed, s: Terms) -> Terms
     let terms = s.terms + 1;
     let k = terms as f64;
     let share = shares(g.fraction, g.fraction_square, terms);
-    let recip_k = share.of_k;
-    let recip_denom = share.of_denominator;
-    let recip_neg = share.of_lower;
-    let recip_pos = share.of_upper;
-    let last_coeff = s.temme_coeff;
-    let last_neg = s.neg_order_term;
-    let last_pos = s.pos_order_term;
-    let last_factor = s.taylor_factor;
-    let sum = s.sum_k_nu;
-    let sum_plus_1 = s.sum_k_nu_plus_1;
-    let square = g.z_sqr_over_4;
-    let temme_coeff = last_coeff
+    let temme_coeff = s
+        .temme_coeff
         .times_real(k)
-        .plus(last_neg)
-        .plus(last_pos)
-        .times_real(recip_denom);
-    let neg_order_term = last_neg.times_real(recip_neg);
-    let pos_order_term = last_pos.times_real(recip_pos);
-    let taylor_factor = last_factor.product(square.times_real(recip_k));
+        .plus(s.neg_order_term)
+        .plus(s.pos_order_term)
+        .times_real(share.of_denominator);
+    let neg_order_term = s.neg_order_term.times_real(share.of_lower);
+    let pos_order_term = s.pos_order_term.times_real(share.of_upper);
+    let taylor_factor = s
+        .taylor_factor
+        .product(g.z_sqr_over_4.times_real(share.of_k));
     let bracket = neg_order_term.minus(temme_coeff.times_real(k));
     Terms {
         temme_coeff,
         neg_order_term,
         pos_order_term,
         taylor_factor,
-        term_magnitude: s.term_magnitude * (g.abs_z_sqr_over_4 * recip_k),
-        sum_k_nu: sum.plus(taylor_factor.product(temme_coeff)),
-        sum_k_nu_plus_1: sum_plus_1.plus(taylor_factor.product(bracket)),
+        term_magnitude: s.term_magnitude * (g.abs_z_sqr_over_4 * share.of_k),
+        sum_k_nu: s.sum_k_nu.plus(taylor_factor.product(temme_coeff)),
+        sum_k_nu_plus_1: s.sum_k_nu_plus_1.plus(taylor_factor.product(bracket)),
         terms,
     }
 }
@@ -74,7 +66,7 @@ pub fn sum(g: Fixed, start: Terms) -> Terms
     ensures { result ≡ sum_of g start }
 {
     let mut s = start;
-    while s.terms < 999 {
+    for _ in 0..999u32 {
         if s.term_magnitude <= Machine::TOLERANCE {
             return s;
         }

@@ -3,10 +3,10 @@
 use Rattle.std.specs.Prelude.{Bool, cond, Float}
 use Rattle.complex.specs.declared.number.Complex.{Complex}
 use Rattle.complex.specs.Arithmetic.{zero_pair, product_of}
-use Rattle.miller.specs.declared.backward.ComplexSteps.{ComplexSteps}
+use Rattle.miller.specs.declared.backward.Steps.{Steps}
 use Rattle.miller.specs.Seeds.{complex_ratio}
 
-unfoldable pub ratio_unless : Bool → Complex → Float → ComplexSteps → Complex
+unfoldable pub ratio_unless : Bool → Complex → Float → Steps Complex → Complex
 ratio_unless alone z fraction s = cond alone zero_pair (complex_ratio z fraction s)
 
 unfoldable pub product_unless : Bool → Complex → Complex → Complex

@@ -8,17 +8,10 @@ pub returns-then-test : goal.returns-then-test
 unfolding by_recurrence convergence_test tolerance
 returns-then-test c = simp c.if-test.true
 
-pub returns-in-At : goal.returns-in-At
+pub returns-in_err-index : goal.returns-in_err-index
 unfolding by_recurrence convergence_test corrected tolerance
-returns-in-At c =
-    let d = c in
-    simp (
-      c.start_from.ensures,
-      c.raw_start.ensures,
-      d.if-test.false,
-      sym d.trial_index-found.ensures ∙ c.in-At.is,
-    )
+returns-in_err-index c = simp (c.from_residual.ensures, c.if-test.false, sym c.trial_index.ensures ∙ c.in_err-index.was)
 
-pub returns-in-Unmet : goal.returns-in-Unmet
+pub returns : goal.returns
 unfolding by_recurrence convergence_test corrected tolerance
-returns-in-Unmet c = simp (c.if-test.false, sym c.trial_index-found.ensures ∙ c.in-Unmet.is)
+returns c = simp (c.start_from.ensures, c.raw_start.ensures, c.if-test.false, sym c.trial_index.ensures ∙ c.in_ok-index.was)

@@ -3,12 +3,12 @@ use mathlib.Core.Path.{◌≡◌, refl}
 use mathlib.Core.Bool.{Bool, true, false}
 use lib.Ieee.{Float}
 use Rattle.complex.specs.declared.number.Complex.{Complex}
-use Rattle.miller.specs.declared.backward.ComplexSteps.{ComplexSteps}
+use Rattle.miller.specs.declared.backward.Steps.{Steps}
 use Rattle.miller.specs.Seeds.{complex_first_seed, complex_second, complex_seeds}
 use Rattle.miller.specs.shapes.Ratio.{ratio_unless, product_unless}
 use Rattle.miller.proofs.seeds.complex_seeds.Goals as goal
 
-second_is : (alone : Bool) (z : Complex) (fraction : Float) (s : ComplexSteps) (first : Complex) → product_unless alone (ratio_unless alone z fraction s) first ≡ complex_second alone z fraction s first
+second_is : (alone : Bool) (z : Complex) (fraction : Float) (s : Steps Complex) (first : Complex) → product_unless alone (ratio_unless alone z fraction s) first ≡ complex_second alone z fraction s first
 unfolding product_unless ratio_unless complex_second
 second_is true z fraction s first = refl
 second_is false z fraction s first = refl

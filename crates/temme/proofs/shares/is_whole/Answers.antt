@@ -6,6 +6,6 @@ pub returns-then-fraction : goal.returns-then-fraction
 unfolding is_whole
 returns-then-fraction c = simp c.if-fraction.true
 
-pub returns : goal.returns
+pub returns-else-fraction : goal.returns-else-fraction
 unfolding is_whole
-returns c = simp c.if-fraction.false
+returns-else-fraction c = simp c.if-fraction.false

@@ -1,0 +1,84 @@
+// What Miller's backward steps are taken with: real numbers on the real path, complex ones off it. Promised: each operation is that of its
+// kind, real_operations and complex_operations of specs/shapes/Operations.antt.
+ghost use Rattle.std.specs.Prelude.{◌≡◌};
+ghost use Rattle.miller.specs.shapes.Operations.{Operations, real_operations, complex_operations};
+
+use complex::number::Complex;
+
+pub trait Amount: Copy {
+    ghost does: { Operations Self };
+
+    fn from_real(x: f64) -> Self
+        ensures { result ≡ does.from_real x };
+
+    fn plus(self, w: Self) -> Self
+        ensures { result ≡ does.plus self w };
+
+    fn minus(self, w: Self) -> Self
+        ensures { result ≡ does.minus self w };
+
+    fn product(self, w: Self) -> Self
+        ensures { result ≡ does.product self w };
+
+    fn times_real(self, t: f64) -> Self
+        ensures { result ≡ does.times_real self t };
+
+    fn plus_real(self, t: f64) -> Self
+        ensures { result ≡ does.plus_real self t };
+}
+
+impl Amount for f64 {
+    ghost does = { real_operations };
+
+    fn from_real(x: f64) -> f64 {
+        x
+    }
+
+    fn plus(self, w: f64) -> f64 {
+        self + w
+    }
+
+    fn minus(self, w: f64) -> f64 {
+        self - w
+    }
+
+    fn product(self, w: f64) -> f64 {
+        self * w
+    }
+
+    fn times_real(self, t: f64) -> f64 {
+        self * t
+    }
+
+    fn plus_real(self, t: f64) -> f64 {
+        self + t
+    }
+}
+
+impl Amount for Complex {
+    ghost does = { complex_operations };
+
+    fn from_real(x: f64) -> Complex {
+        Complex { re: x, im: 0.0 }
+    }
+
+    fn plus(self, w: Complex) -> Complex {
+        Complex::plus(self, w)
+    }
+
+    fn minus(self, w: Complex) -> Complex {
+        Complex::minus(self, w)
+    }
+
+    fn product(self, w: Complex) -> Complex {
+        Complex::product(self, w)
+    }
+
+    fn times_real(self, t: f64) -> Complex {
+        Complex::times_real(self, t)
+    }
+
+    fn plus_real(self, t: f64) -> Complex {
+        Complex::plus_real(self, t)
+    }
+}

@@ -1,7 +1,8 @@
 // Seeds for |z| to 2: Temme's sum, on the scale of its state, times e^z where K is asked for scaled.
 // From src/amos/right_half_plane.rs, k_right_half_plane (ZBKNU). Promised: temme_seeds of specs/ByTemme.antt.
 ghost use Rattle.std.specs.Prelude.{◌≡◌};
-ghost use Rattle.right_half_plane.specs.ByTemme.{growth_state, growth_of, grown_by, temme_pair, temme_seeds};
+ghost use Rattle.right_half_plane.specs.ByTemme.{growth_state, temme_seeds};
+ghost use Rattle.right_half_plane.specs.shapes.Growth.{growth_if, grown_if, pair_if};
 
 use crate::ground::Ground;
 use crate::seeds::{Seeded, Seeds};
@@ -22,38 +23,34 @@ fn growth_state(order: f64, shinc: Complex) -> OverflowState
     OverflowState::None
 }
 
-// e^z, which scaled seeds take. It does not wait for Temme's sum, and is worked out before it; unscaled seeds ask for none.
-#[tactic(auto, unfolding(crate::specs::ByTemme::growth_of))]
-fn growth(scaled: bool, z: Complex) -> Complex
-    ensures { result ≡ growth_of scaled z }
+// e^z, which scaled seeds take and no others. It does not wait for Temme's sum, and is worked out before it.
+#[tactic(auto, unfolding(crate::specs::shapes::Growth::growth_if))]
+fn growth(scaled: bool, z: Complex) -> Option<Complex>
+    ensures { result ≡ growth_if scaled z }
 {
-    if scaled {
-        return z.exp();
-    }
-    Complex { re: 1.0, im: 0.0 }
+    if scaled { Some(z.exp()) } else { None }
 }
 
-#[tactic(auto, unfolding(crate::specs::ByTemme::grown_by))]
-fn grown(scaled: bool, growth: Complex, value: Complex) -> Complex
-    ensures { result ≡ grown_by scaled growth value }
+#[tactic(auto, unfolding(crate::specs::shapes::Growth::grown_if))]
+fn grown(growth: Option<Complex>, value: Complex) -> Complex
+    ensures { result ≡ grown_if growth value }
 {
-    if scaled {
-        return value.product(growth);
+    match growth {
+        Some(growth) => value.product(growth),
+        None => value,
     }
-    value
 }
 
 impl Ground {
-    #[tactic(auto, unfolding(crate::specs::ByTemme::temme_pair))]
-    fn temme_pair(self, scaled: bool, growth: Complex, factor: f64, t: Temme) -> Seeds
-        ensures { result ≡ temme_pair self scaled growth factor t }
+    #[tactic(auto, unfolding(crate::specs::shapes::Growth::pair_if))]
+    fn temme_pair(self, growth: Option<Complex>, factor: f64, t: Temme) -> Seeds
+        ensures { result ≡ pair_if self growth factor t }
     {
         let first = t.first.times_real(factor);
         let second = t.second.product(self.two_over_z.times_real(factor));
-        Seeds::Pair(grown(scaled, growth, first), grown(scaled, growth, second))
+        Seeds::Pair(grown(growth, first), grown(growth, second))
     }
 
-    #[tactic(auto, unfolding(crate::specs::ByTemme::temme_seeds))]
     pub fn temme_seeds(self, scaled: bool) -> Seeded
         ensures { result ≡ temme_seeds self scaled }
     {
@@ -64,7 +61,7 @@ impl Ground {
         let terms = t.terms;
         if self.is_alone() {
             return Seeded {
-                seeds: Seeds::Finished(grown(scaled, growth, t.first)),
+                seeds: Seeds::Finished(grown(growth, t.first)),
                 state: OverflowState::None,
                 underflow: false,
                 terms,
@@ -73,7 +70,7 @@ impl Ground {
         }
         let state = growth_state(self.order, t.shinc);
         Seeded {
-            seeds: self.temme_pair(scaled, growth, scale(state), t),
+            seeds: self.temme_pair(growth, scale(state), t),
             state,
             underflow: false,
             terms,

@@ -5,10 +5,8 @@ ghost use Rattle.std.specs.Float.Ieee.{le};
 ghost use Rattle.laws.proofs.Relative.{nonnegative};
 ghost use Rattle.call.specs.Limits.{largest_order};
 ghost use Rattle.right_half_plane.specs.Ground.{ground_of, is_alone};
-ghost use Rattle.right_half_plane.specs.Reach.{steps_of, wanted_of};
 
 use complex::number::Complex;
-use recurrence::state::Climb;
 use rounding::round::round;
 use temme::difference::fraction_square;
 
@@ -49,32 +47,5 @@ impl Ground {
         ensures { result ≡ is_alone self }
     {
         self.nearest == 0 && self.count == 1
-    }
-
-    // how many rungs lie between the seeds and the orders wanted
-    #[tactic(auto, unfolding(crate::specs::Reach::steps_of))]
-    pub(crate) fn steps(self) -> u32
-        ensures { result ≡ steps_of self }
-    {
-        if self.count == 1 {
-            return self.nearest.saturating_sub(1);
-        }
-        self.nearest
-    }
-
-    // One value alone is the newer of the two, unless it is the first seed.
-    #[tactic(auto, unfolding(crate::specs::Reach::wanted_of))]
-    pub(crate) fn wanted(self, c: Climb) -> Climb
-        ensures { result ≡ wanted_of self c }
-    {
-        if self.count == 1 && self.nearest > 0 {
-            return Climb {
-                older: c.newer,
-                newer: c.newer,
-                state: c.state,
-                rungs: c.rungs,
-            };
-        }
-        c
     }
 }

@@ -14,7 +14,6 @@ use crate::ground::{Ground, prepare};
 use crate::lead::{Lead, on_scale_lead};
 use crate::reach::Reached;
 use crate::seeds::{Seeded, Seeds};
-use cells::fill;
 use complex::number::Complex;
 use recurrence::fill as climb_fill;
 use recurrence::state::Climb;
@@ -65,7 +64,7 @@ impl Admitted {
         ensures { (Ok result ≡ (lead_kernel self.prepared s lead).ending) × (out.new ≡ (lead_kernel self.prepared s lead).cells) }
     {
         let at = (lead.zeros as usize) * 2;
-        fill::fill(&mut out[0..at], 0.0);
+        out[0..at].fill(0.0);
         let rungs = self.prepared.rest(lead, &mut out[at..]);
         Counts {
             zeros: lead.zeros,

@@ -1,9 +1,10 @@
 // From the seeds to the first order wanted, on scale or with underflow still marked. From src/amos/right_half_plane.rs, k_right_half_plane (ZBKNU).
 // Promised: reach_of of specs/Reach.antt. Each rung raises the call's own number.
 ghost use Rattle.std.specs.Prelude.{◌≡◌, ◌≤◌};
-ghost use Rattle.right_half_plane.specs.Reach.{resting_of, climbed_of, begun_of, reach_of};
+ghost use Rattle.right_half_plane.specs.Reach.{steps_of, wanted_of, resting_of, climbed_of, begun_of, reach_of};
 
 use crate::admitted::Admitted;
+use crate::ground::Ground;
 use crate::recover::{Resumed, recover};
 use recurrence::climb::climb;
 use recurrence::state::Climb;
@@ -16,19 +17,46 @@ pub enum Reached {
     Marked(Climb),
 }
 
-impl Admitted {
+impl Ground {
+    // how many rungs lie between the seeds and the orders wanted
+    #[tactic(auto, unfolding(crate::specs::Reach::steps_of))]
+    fn steps(self) -> u32
+        ensures { result ≡ steps_of self }
+    {
+        if self.count == 1 {
+            return self.nearest.saturating_sub(1);
+        }
+        self.nearest
+    }
+
+    // One value alone is the newer of the two, unless it is the first seed.
+    #[tactic(auto, unfolding(crate::specs::Reach::wanted_of))]
+    fn wanted(self, c: Climb) -> Climb
+        ensures { result ≡ wanted_of self c }
+    {
+        if self.count == 1 && self.nearest > 0 {
+            return Climb {
+                older: c.newer,
+                ..c
+            };
+        }
+        c
+    }
+
     // with no rung to climb
     #[tactic(auto, unfolding(crate::specs::Reach::resting_of))]
     fn resting(self, underflow: bool, c: Climb) -> Reached
-        ensures { result ≡ resting_of self.prepared underflow c }
+        ensures { result ≡ resting_of self underflow c }
     {
-        let c = self.prepared.wanted(c);
+        let c = self.wanted(c);
         if underflow {
             return Reached::Marked(c);
         }
         Reached::OnScale(c)
     }
+}
 
+impl Admitted {
     // where the plain climb begins: at the seeds, or where the climb out of underflow leaves off
     #[tactic(auto, unfolding(crate::specs::Reach::begun_of))]
     fn begun(self, underflow: bool, c: Climb) -> Result<Resumed, Refusal>
@@ -60,7 +88,7 @@ impl Admitted {
         ensures { result ≡ reach_of self.prepared underflow c }
     {
         if self.prepared.steps() == 0 {
-            return Ok(self.resting(underflow, c));
+            return Ok(self.prepared.resting(underflow, c));
         }
         let from = self.begun(underflow, c)?;
         Ok(self.climbed(from.next_offset, from.climb))

@@ -1,7 +1,6 @@
 -- The zeros before the first entries, and the rungs climbed until then: what first orders on scale adds. Assumes nothing.
-use mathlib.Core.Path.{◌≡◌, refl, ap, ◌∙◌}
+use mathlib.Core.Path.{◌≡◌, ap, ◌∙◌}
 use mathlib.Core.Logic.{inl, inr}
-use Rattle.std.specs.Prelude.{Ok}
 use Prim.Native.Nat.{ℕ, zero, suc, ◌+◌, ◌-◌, ◌≤◌}
 use native.Mathlib.Omega.{arith}
 use lib.Ieee.{Float}
@@ -16,13 +15,9 @@ use Rattle.recurrence.proofs.FillFacts.{fill-climb}
 use Rattle.recurrence.proofs.FirstFacts as first
 use Rattle.right_half_plane.specs.declared.ground.Ground.{Ground}
 use Rattle.right_half_plane.specs.declared.lead.Lead.{Lead}
-use Rattle.right_half_plane.specs.declared.seeds.Seeded.{Seeded}
-use Rattle.right_half_plane.specs.declared.reach.Reached.{Reached}
-use Rattle.right_half_plane.specs.declared.reach.Reached.TheVariants as reached
 use Rattle.right_half_plane.specs.Ground.{Sized}
 use Rattle.right_half_plane.specs.Lead.{on_scale_lead, first_lead}
-use Rattle.right_half_plane.specs.Kernel.{LeadFits, rest_of, lead_kernel, reached_kernel}
-use Rattle.right_half_plane.specs.shapes.Led.{led_of}
+use Rattle.right_half_plane.specs.Kernel.{LeadFits, rest_of}
 
 few-rungs : (n : ℕ) (r : FirstOrders) → first.Counted n r → n ≤ 512 → r.rungs ≤ 512
 few-rungs n r (inl w) h = omega (arith, w.0, w.1)
@@ -53,12 +48,6 @@ first_fits g c s h =
       few = s.few;
       rungs = omega arith;
     }
-
--- one lead for both ways that a climb can end
-pub led-kernel : (g : Ground) (s : Seeded) (r : Reached) → reached_kernel g s (Ok r) ≡ lead_kernel g s (led_of g r)
-unfolding reached_kernel led_of
-led-kernel g s (reached.OnScale c) = refl
-led-kernel g s (reached.Marked c) = refl
 
 -- ---- with the fill behind them
 rest-rungs : (g : Ground) (lead : Lead) (k : ℕ) → (rest_of g lead k).rungs ≡ lead.climb.rungs + (k - 2)

@@ -6,7 +6,6 @@ ghost use Rattle.std.specs.Float.Ieee.{le};
 ghost use Rattle.laws.proofs.Relative.{nonnegative};
 ghost use Rattle.complex.specs.Functions.{modulus_of};
 ghost use Rattle.call.specs.Limits.{largest_order};
-ghost use Rattle.right_half_plane.specs.shapes.Led.{MarkedFew, led_of};
 ghost use Rattle.right_half_plane.specs.Kernel.{LeadFits, rest_of, lead_kernel, pair_kernel, finished_kernel, kernel_of, afterwards};
 
 use crate::admitted::Admitted;
@@ -74,18 +73,6 @@ impl Admitted {
         }
     }
 
-    // the lead of where the climb stands: one record for both ways, so that the compiler keeps it in registers
-    #[tactic(auto, unfolding(crate::specs::shapes::Led::led_of))]
-    fn led(self, reached: Reached) -> Lead
-        requires { MarkedFew reached }
-        ensures { result ≡ led_of self.prepared reached }
-    {
-        match reached {
-            Reached::OnScale(c) => on_scale_lead(c),
-            Reached::Marked(c) => self.first_lead(c),
-        }
-    }
-
     fn from_pair(
         self,
         s: Seeded,
@@ -104,7 +91,10 @@ impl Admitted {
             rungs: 0,
         };
         let reached = self.reach(s.underflow, start)?;
-        Ok(self.answered(s, self.led(reached), out))
+        match reached {
+            Reached::OnScale(c) => Ok(self.answered(s, on_scale_lead(c), out)),
+            Reached::Marked(c) => Ok(self.answered(s, self.first_lead(c), out)),
+        }
     }
 }
 

@@ -1,4 +1,5 @@
 -- What a call of K comes to, on every input: each number exactly when, the counts of an answer, and what the cells then hold. Assumes nothing.
+use Rattle.std.specs.Prelude.{Result, Ok, Err}
 use mathlib.Core.Path.{◌≡◌, refl, sym, ap, ◌∙◌, subst}
 use mathlib.Core.Logic.{◌⊎◌, inl, inr}
 use mathlib.Core.Bool.{Bool, true, not}
@@ -10,6 +11,7 @@ use lib.Dec.{T}
 use lib.ListN.{drop, take, replicate, length-replicate}
 use lib.ListN.{length as length-of}
 use lib.Ieee.{Float, binary64, of_bits}
+use Rattle.refusal.specs.declared.refusal.Refusal.{Refusal}
 use Rattle.machine.specs.Constants.{not_a_number}
 use Rattle.cells.specs.AllFinite.{all_finite}
 use Rattle.refusal.specs.declared.refusal.Refusal.TheVariants as refusals
@@ -20,10 +22,8 @@ use Rattle.call.proofs.FirstFacts.{Given, is_one_of, none-or-listed}
 use Rattle.call.proofs.WhichLimit.{HitsLimit, hits-limit}
 use Rattle.call.proofs.LimitFacts.{lent}
 use Rattle.right_half_plane.specs.declared.kernel.Counts.{Counts}
-use Rattle.right_half_plane.specs.declared.kernel.Ending as kernels
-use Rattle.right_half_plane.specs.declared.kernel.Ending.TheVariants as ended
 use Rattle.right_half_plane.specs.Ground.{nearest_order, ground_of}
-use Rattle.right_half_plane.specs.Seeds.{seed_of}
+use Rattle.right_half_plane.specs.Seeds.{seed_of, terms_of}
 use Rattle.right_half_plane.proofs.Answers.{Answers, kernel-answers, kernel-terms}
 use Rattle.right_half_plane.proofs.Delivered.{Delivers, kernel-delivers}
 use Rattle.right_half_plane.specs.Refusals.{start_refused, climb_refused}
@@ -37,15 +37,15 @@ use Rattle.bessel.proofs.CheckFacts.{k-passed}
 use Rattle.bessel.proofs.CallFacts.{judged-number, RefusedWhole, refused-facts, Ended, refused, answered, ends, numbered}
 
 -- ---- how the kernel's steps end: refusal 6, 7, or neither
-data EndsWith (o : kernels.Ending) : Type 0 where
-  by_answer : (counts : Counts) → o ≡ ended.Answered counts → EndsWith o
-  by-start : o ≡ ended.Refused refusals.Start → EndsWith o
-  by-climb : o ≡ ended.Refused refusals.Climb → EndsWith o
+data EndsWith (o : Result Counts Refusal) : Type 0 where
+  by_answer : (counts : Counts) → o ≡ Ok counts → EndsWith o
+  by-start : o ≡ Err refusals.Start → EndsWith o
+  by-climb : o ≡ Err refusals.Climb → EndsWith o
 
-ends_with : (n : ℕ) (o : kernels.Ending) (cells : List Float) → Delivers n o cells → EndsWith o
-ends_with n (ended.Answered counts) cells h = by_answer counts refl
-ends_with n (ended.Refused refusal) cells (inl e) = by-start (ap ended.Refused e)
-ends_with n (ended.Refused refusal) cells (inr e) = by-climb (ap ended.Refused e)
+ends_with : (n : ℕ) (o : Result Counts Refusal) (cells : List Float) → Delivers n o cells → EndsWith o
+ends_with n (Ok counts) cells h = by_answer counts refl
+ends_with n (Err refusal) cells (inl e) = by-start (ap Err e)
+ends_with n (Err refusal) cells (inr e) = by-climb (ap Err e)
 
 kernel-ends : (scaled : Bool) (a : Arguments) (length : ℕ) → EndsWith (kernel_by scaled a length).ending
 unfolding kernel_by
@@ -58,7 +58,7 @@ counts-number c = refl
 
 -- with refusals 6 and 7 by their own words
 later-by :
-    (length : ℕ) (o : kernels.Ending) (cells : List Float) (b c : Bool) → b ≡ refuses refusals.Start o → c ≡ refuses refusals.Climb o → EndsWith o →
+    (length : ℕ) (o : Result Counts Refusal) (cells : List Float) (b c : Bool) → b ≡ refuses refusals.Start o → c ≡ refuses refusals.Climb o → EndsWith o →
     number_given (verdict_of (check b refusals.Start ∷ check c refusals.Climb ∷ check (not (all_finite cells)) refusals.Overflow ∷ [])) ≡ number_in (concluded_of length (kernel_steps o cells)).answer
 unfolding verdict_of verdict_from refused_if number_given kernel_steps concluded_of judged_of refused_outcome refused_of
 later-by length o cells b c p q (by_answer counts e) = rw (p, q, e) (judged-number (all_finite cells) length (counts_answer counts) cells (counts-number counts))
@@ -74,7 +74,7 @@ listed scaled a length = refl
 pub record AnsweredWhole (scaled : Bool) (a : Arguments) (length : ℕ) (o : Outcome) : Type 0 where
   pub passed : none_applies (k_checks a length) ≡ true
   pub counts : Counts
-  pub kernel : (kernel_by scaled a length).ending ≡ ended.Answered counts
+  pub kernel : (kernel_by scaled a length).ending ≡ Ok counts
   pub finite : all_finite (kernel_by scaled a length).cells ≡ true
   pub answer : o.answer ≡ counts_answer counts
   pub cells : o.cells ≡ (kernel_by scaled a length).cells
@@ -83,27 +83,27 @@ pub record AnsweredWhole (scaled : Bool) (a : Arguments) (length : ℕ) (o : Out
 pub record Counted (scaled : Bool) (a : Arguments) (length : ℕ) (o : Outcome) : Type 0 where
   pub rungs : rungs_in o.answer ≡ nearest_order a.order + length / 2 - 2
   pub backward : backward_in o.answer ≤ 256
-  pub terms : longest_in o.answer ≡ (seed_of (ground_of a.order a.z a.modulus (length / 2)) scaled).terms
+  pub terms : longest_in o.answer ≡ terms_of (seed_of (ground_of a.order a.z a.modulus (length / 2)) scaled)
   pub count : ℕ
   pub zeros : zeros_in o.answer ≡ pos count
   pub few : count ≤ length / 2
   pub front : take (count * 2) o.cells ≡ replicate (count * 2) (of_bits binary64 0)
 
 -- what steps that deliver have of the kernel
-record Delivery (o : kernels.Ending) (l : List Float) (answer : Answer) (from : ℕ) (cells : List Float) : Type 0 where
+record Delivery (o : Result Counts Refusal) (l : List Float) (answer : Answer) (from : ℕ) (cells : List Float) : Type 0 where
   counts : Counts
-  kernel : o ≡ ended.Answered counts
+  kernel : o ≡ Ok counts
   same_answer : answer ≡ counts_answer counts
   same-cells : cells ≡ l
   same-finished : drop from cells ≡ l
 
-delivery : (o : kernels.Ending) (l : List Float) (answer : Answer) (from : ℕ) (cells : List Float) → kernel_steps o l ≡ Delivered answer from cells → Delivery o l answer from cells
+delivery : (o : Result Counts Refusal) (l : List Float) (answer : Answer) (from : ℕ) (cells : List Float) → kernel_steps o l ≡ Delivered answer from cells → Delivery o l answer from cells
 unfolding kernel_steps
-delivery (ended.Answered c) l answer from cells e =
+delivery (Ok c) l answer from cells e =
     let f : 0 ≡ from = cc in
     let g : l ≡ cells = cc in
     record { counts = c; kernel = refl; same_answer = cc; same-cells = sym g; same-finished = sym (ap (λ (n : ℕ). drop n cells) f) ∙ sym g }
-delivery (ended.Refused r) l answer from cells e = absurd (let z : ◌≡◌ {A = ℕ} 0 1 = cc in omega arith)
+delivery (Err r) l answer from cells e = absurd (let z : ◌≡◌ {A = ℕ} 0 1 = cc in omega arith)
 
 module _ (scaled : Bool) (v re im : Float) (length : ℕ) where
   -- the number, exactly when, and no other than the list's
@@ -164,9 +164,9 @@ module _ (scaled : Bool) (v re im : Float) (length : ℕ) where
         | inr a ↦ a
       ]
 
-  delivered : (w : AnsweredWhole scaled (arguments_of v re im) length (k_outcome scaled v re im length)) → Delivers (length / 2) (ended.Answered w.counts) (kernel_by scaled (arguments_of v re im) length).cells
+  delivered : (w : AnsweredWhole scaled (arguments_of v re im) length (k_outcome scaled v re im length)) → Delivers (length / 2) (Ok w.counts) (kernel_by scaled (arguments_of v re im) length).cells
   unfolding kernel_by
-  delivered w = let a = arguments_of v re im in subst (λ (o : kernels.Ending). Delivers (length / 2) o (kernel_by scaled a length).cells) w.kernel (kernel-delivers scaled a.order a.z a.modulus (length / 2))
+  delivered w = let a = arguments_of v re im in subst (λ (o : Result Counts Refusal). Delivers (length / 2) o (kernel_by scaled a length).cells) w.kernel (kernel-delivers scaled a.order a.z a.modulus (length / 2))
 
   -- an outcome has a value for each lent cell
   pub cells-length : length-of (k_outcome scaled v re im length).cells ≡ length
@@ -186,7 +186,7 @@ module _ (scaled : Bool) (v re im : Float) (length : ℕ) where
       let w = answered-whole h in
       let l = lent length (k-passed a length w.passed).lent in
       let d = delivered w in
-      let k = subst (Answers (nearest_order a.order + length / 2 - 2) (seed_of (ground_of a.order a.z a.modulus (length / 2)) scaled).terms) w.kernel (kernel-answers scaled a.order a.z a.modulus (length / 2) (omega arith)) in
+      let k = subst (Answers (nearest_order a.order + length / 2 - 2) (terms_of (seed_of (ground_of a.order a.z a.modulus (length / 2)) scaled))) w.kernel (kernel-answers scaled a.order a.z a.modulus (length / 2) (omega arith)) in
       record {
         rungs = ap rungs_in w.answer ∙ k.0;
         backward = subst (λ (x : Answer). backward_in x ≤ 256) (sym w.answer) k.1;

@@ -1,10 +1,9 @@
 -- What a call of K gives. Definitions only.
-use Rattle.std.specs.Prelude.{Bool, false, not, List, [], ◌∷◌, ◌++◌, ℕ, ◌/◌, ◌≤◌, Float}
+use Rattle.std.specs.Prelude.{Bool, false, not, List, [], ◌∷◌, ◌++◌, ℕ, ◌/◌, ◌≤◌, Float, Result, Ok, Err}
+use Rattle.refusal.specs.declared.refusal.Refusal.{Refusal}
 use Rattle.refusal.specs.declared.refusal.Refusal.TheVariants.{Start, Climb, Overflow}
 use Rattle.cells.specs.AllFinite.{all_finite}
 use Rattle.right_half_plane.specs.declared.kernel.Counts.{Counts}
-use Rattle.right_half_plane.specs.declared.kernel.Ending as kernels
-use Rattle.right_half_plane.specs.declared.kernel.Ending.TheVariants as ended
 use Rattle.right_half_plane.specs.declared.ground.Ground.{Ground}
 use Rattle.right_half_plane.specs.Ground.{ground_of}
 use Rattle.right_half_plane.specs.Kernel.{Kernel, kernel_of}
@@ -25,9 +24,9 @@ unfoldable pub counts_answer : Counts → Answer
 counts_answer c = answered_of (signed_of false c.zeros) c.longest_sum c.rungs c.backward
 
 -- every cell of an answer is finished
-unfoldable pub kernel_steps : kernels.Ending → List Float → Steps
-kernel_steps (ended.Answered c) cells = Delivered (counts_answer c) 0 cells
-kernel_steps (ended.Refused r) cells = Stopped r
+unfoldable pub kernel_steps : Result Counts Refusal → List Float → Steps
+kernel_steps (Ok c) cells = Delivered (counts_answer c) 0 cells
+kernel_steps (Err r) cells = Stopped r
 
 unfoldable pub k_steps : Bool → Arguments → ℕ → Steps
 k_steps scaled a length = let k = kernel_by scaled a length in kernel_steps k.ending k.cells
@@ -52,6 +51,6 @@ unfoldable pub all_k_checks : Bool → Arguments → ℕ → List Check
 all_k_checks scaled a length = k_checks a length ++ kernel_checks scaled a length
 
 -- zeros that a count of the record can hold
-abbrev pub Fewer : kernels.Ending → Type 0
-Fewer (ended.Answered c) = c.zeros ≤ 512
-Fewer (ended.Refused r) = Unit
+abbrev pub Fewer : Result Counts Refusal → Type 0
+Fewer (Ok c) = c.zeros ≤ 512
+Fewer (Err r) = Unit

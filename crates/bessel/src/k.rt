@@ -13,16 +13,17 @@ use crate::arguments::{Arguments, prepare};
 use crate::checks::k_verdict;
 use crate::outcome::{judge, refuse};
 use call::answer::{Answer, Counts, signed};
-use right_half_plane::kernel::{Ending, k_right_half_plane};
+use refusal::refusal::Refusal;
+use right_half_plane::kernel::{self, k_right_half_plane};
 
 // Every entry of an answer is finished; a refusal has left the cells as they were, and they are filled here.
-fn concluded(ending: Ending, out: &mut [f64]) -> Answer
+fn concluded(ending: Result<kernel::Counts, Refusal>, out: &mut [f64]) -> Answer
     requires { Fewer ending }
     ensures { (result ≡ (concluded_of (length out.old) (kernel_steps ending out.old)).answer)
         × (out.new ≡ (concluded_of (length out.old) (kernel_steps ending out.old)).cells) }
 {
     match ending {
-        Ending::Answered(c) => judge(
+        Ok(c) => judge(
             Ok(Counts {
                 zeros: signed(false, c.zeros),
                 longest_sum: c.longest_sum,
@@ -32,7 +33,7 @@ fn concluded(ending: Ending, out: &mut [f64]) -> Answer
             0,
             out,
         ),
-        Ending::Refused(refusal) => refuse(refusal, out),
+        Err(refusal) => refuse(refusal, out),
     }
 }
 

@@ -64,9 +64,6 @@ module _ (g : Ground) (lead : Lead) where
   pub stored-length : (d : List Float) → length (stored d) ≡ length d
   stored-length d = simp length-set
 
-  pub stored-many : (d : List Float) → 4 ≤ length d → 4 ≤ length (stored d)
-  stored-many d h = simp length-set h
-
   stored-front : (d : List Float) → 4 ≤ length d → take 4 (stored d) ≡ lead.first.re ∷ lead.first.im ∷ lead.second.re ∷ lead.second.im ∷ []
   stored-front d h =
       seam-take (seam-pair lead.second.re lead.second.im 2 3 4 refl refl refl (omega arith) (seam-pair lead.first.re lead.first.im 0 1 2 refl refl refl (omega arith) (seam-start d)))
@@ -90,15 +87,6 @@ module _ (g : Ground) (lead : Lead) where
     pub rungs-more : (c : Climb) → c ≡ (fill_from g.two_over_z (g.order ⊖ one) (lead.zeros + 2) m lead.climb).climb → c.rungs ≡ (rest_of g lead (length d / 2)).rungs
     unfolding rest_of
     rungs-more c e = ap (λ (t : Climb). t.rungs) e ∙ sym (ap (λ (n : ℕ). (rest_of g lead n).rungs) (count (length d) m h k))
-
-    pub kept-length : (ys : List Float) → length d % 2 ≡ 0 → ys ≡ (fill_from g.two_over_z (g.order ⊖ one) (lead.zeros + 2) m lead.climb).cells → length (put_mid 4 (length (stored d) - 4) (stored d) ys) ≡ length d
-    kept-length ys p e =
-        ap length (put_rest 4 (stored d) ys)
-        ∙ length-append (take 4 (stored d)) ys
-        ∙ whole (length (take 4 (stored d))) (length ys) (length d) m p h k (ap length (stored-front d h)) (ap length e ∙ fill-length g.two_over_z (g.order ⊖ one) (lead.zeros + 2) m lead.climb)
-      where
-        whole : (t y n m : ℕ) → n % 2 ≡ 0 → 4 ≤ n → m ≡ (n - 4) / 2 → t ≡ 4 → y ≡ m * 2 → t + y ≡ n
-        whole t y n m p h k e f = omega arith
 
 -- ---- the zeros, and then the rest: the cells xs, of which ys are the zeros and zs the rest
 module _ (g : Ground) (lead : Lead) (xs ys : List Float) (h : length xs ≡ g.count * 2) (z : lead.zeros ≤ g.count) (e : ys ≡ replicate (length (mid_of 0 (lead.zeros * 2 - 0) xs)) (of_bits binary64 0)) where

@@ -3,12 +3,14 @@ use mathlib.Core.Path.{◌≡◌, refl, sym, ◌∙◌, subst}
 use mathlib.Core.Bool.{Bool, true, false, ◌&&◌, ◌||◌, cond}
 use Prim.Native.Nat.{ℕ, ◌+◌, ◌-◌, ◌≤◌}
 use native.Mathlib.Omega.{arith}
+use Rattle.std.specs.Prelude.{Result, Ok, Err}
 use lib.Dec.{eqb, ltb}
 use borrow.Author.Tests.{eqb-true}
 use lib.Ieee.{Float}
 use Rattle.laws.specs.Operators.{◌⊖◌}
 use Rattle.machine.specs.Small.{one}
 use Rattle.complex.specs.declared.number.Complex.{Complex}
+use Rattle.refusal.specs.declared.refusal.Refusal.{Refusal}
 use Rattle.refusal.specs.declared.refusal.Refusal.TheVariants as refusals
 use Rattle.recurrence.specs.Climb.{climb_from}
 use Rattle.recurrence.specs.Trial.{failed_trial}
@@ -20,14 +22,12 @@ use Rattle.recurrence.specs.declared.state.Climb.{Climb}
 use Rattle.recurrence.proofs.ClimbFacts.{rungs-climbed}
 use Rattle.recurrence.proofs.SearchFacts.{search-ends}
 use Rattle.right_half_plane.specs.declared.ground.Ground.{Ground}
-use Rattle.right_half_plane.specs.declared.recover.Recovered.{Recovered}
-use Rattle.right_half_plane.specs.declared.recover.Recovered.TheVariants as recovered
+use Rattle.right_half_plane.specs.declared.recover.Resumed.{Resumed}
 use Rattle.right_half_plane.specs.declared.reach.Reached.{Reached}
 use Rattle.right_half_plane.specs.declared.reach.Reached.TheVariants as reached
 use Rattle.right_half_plane.specs.Ground.{Sized}
 use Rattle.right_half_plane.specs.Recover.{is_zero_pair, neighbours_of, settled_of, recover_of}
-use Rattle.right_half_plane.specs.shapes.Led.{MarkedFew}
-use Rattle.right_half_plane.specs.Reach.{steps_of, wanted_of, resting_of, climbed_of, resumed_of, begun_of, reach_of, Few}
+use Rattle.right_half_plane.specs.Reach.{steps_of, wanted_of, resting_of, climbed_of, resumed_of, begun_of, reach_of}
 
 -- ---- the climb out of underflow: two neighbours and the offset behind the rungs climbed, or refusal 7
 pub recovery-rungs : (fraction : Float) (two_over_z : Complex) (steps : ℕ) (s : Search) → s.rungs ≡ 0 → (search_from OutOfUnderflow fraction two_over_z steps s).rungs ≤ steps
@@ -36,15 +36,15 @@ recovery-rungs fraction two_over_z steps s z = few _ s.rungs steps z (search-end
     few : (r a n : ℕ) → a ≡ 0 → r ≤ a + n → r ≤ n
     few r a n e h = omega arith
 
-abbrev pub Resumes : ℕ → Recovered → Type 0
-Resumes steps (recovered.Neighbours n) = (n.climb.rungs ≤ steps) × (n.next_offset ≡ n.climb.rungs + 2)
-Resumes steps (recovered.Refused refusal) = refusal ≡ refusals.Climb
+abbrev pub Resumes : ℕ → Result Resumed Refusal → Type 0
+Resumes steps (Ok n) = (n.climb.rungs ≤ steps) × (n.next_offset ≡ n.climb.rungs + 2)
+Resumes steps (Err refusal) = refusal ≡ refusals.Climb
 
 settled-resumes : (steps : ℕ) (s : Search) → s.rungs ≤ steps → Resumes steps (settled_of s)
 unfolding settled_of neighbours_of
 settled-resumes steps s h = go (is_found s) (is_zero_pair s.before.value || is_zero_pair s.latest.value)
   where
-    go : (a b : Bool) → Resumes steps (cond a (cond b (recovered.Refused refusals.Climb) (recovered.Neighbours (record { climb = record { older = s.before.value; newer = s.latest.value; state = NearUnder; rungs = s.rungs }; next_offset = s.rungs + 2 }))) (recovered.Refused refusals.Climb))
+    go : (a b : Bool) → Resumes steps (cond a (cond b (Err refusals.Climb) (Ok (record { climb = record { older = s.before.value; newer = s.latest.value; state = NearUnder; rungs = s.rungs }; next_offset = s.rungs + 2 }))) (Err refusals.Climb))
     go false b = refl
     go true true = refl
     go true false = (h, refl)
@@ -70,12 +70,12 @@ wanted-rungs g c = go (eqb g.count 1 && ltb 0 g.nearest)
     go true = refl
     go false = refl
 
-abbrev pub Arrives : Ground → Reached → Type 0
-Arrives g (reached.OnScale c) = c.rungs ≡ steps_of g
-Arrives g (reached.Marked c) = c.rungs ≡ steps_of g
-Arrives g (reached.Refused refusal) = refusal ≡ refusals.Climb
+abbrev pub Arrives : Ground → Result Reached Refusal → Type 0
+Arrives g (Ok (reached.OnScale c)) = c.rungs ≡ steps_of g
+Arrives g (Ok (reached.Marked c)) = c.rungs ≡ steps_of g
+Arrives g (Err refusal) = refusal ≡ refusals.Climb
 
-climbed-arrives : (g : Ground) (from : ℕ) (c : Climb) → from ≡ c.rungs + 2 → c.rungs ≤ steps_of g → Arrives g (climbed_of g from c)
+climbed-arrives : (g : Ground) (from : ℕ) (c : Climb) → from ≡ c.rungs + 2 → c.rungs ≤ steps_of g → Arrives g (Ok (climbed_of g from c))
 unfolding climbed_of
 climbed-arrives g from c e h =
     wanted-rungs g (climb_from g.two_over_z (g.fraction ⊖ one) from (steps_of g + 2 - from) c)
@@ -85,10 +85,10 @@ climbed-arrives g from c e h =
     whole : (a n from : ℕ) → from ≡ a + 2 → a ≤ n → a + (n + 2 - from) ≡ n
     whole a n from e h = omega arith
 
-resumed-arrives : (g : Ground) (r : Recovered) → Resumes (steps_of g) r → Arrives g (resumed_of g r)
+resumed-arrives : (g : Ground) (r : Result Resumed Refusal) → Resumes (steps_of g) r → Arrives g (resumed_of g r)
 unfolding resumed_of
-resumed-arrives g (recovered.Neighbours n) w = climbed-arrives g n.next_offset n.climb w.1 w.0
-resumed-arrives g (recovered.Refused refusal) w = w
+resumed-arrives g (Ok n) w = climbed-arrives g n.next_offset n.climb w.1 w.0
+resumed-arrives g (Err refusal) w = w
 
 -- where it begins: at the seeds, after no rung, or where the climb out of underflow leaves off
 begun-resumes : (g : Ground) (underflow : Bool) (c : Climb) → c.rungs ≡ 0 → Resumes (steps_of g) (begun_of g underflow c)
@@ -102,12 +102,10 @@ begun-resumes g false c z = (short c.rungs (steps_of g) z, two c.rungs z)
     two : (a : ℕ) → a ≡ 0 → 2 ≡ a + 2
     two a e = omega arith
 
-pub begun-few : (g : Ground) (underflow : Bool) (c : Climb) → Sized g → c.rungs ≡ 0 → Few (begun_of g underflow c)
-begun-few g underflow c s z = go (begun_of g underflow c) (begun-resumes g underflow c z)
-  where
-    go : (r : Recovered) → Resumes (steps_of g) r → Few r
-    go (recovered.Neighbours n) w = omega (arith, w.0, steps-few g s)
-    go (recovered.Refused refusal) w = tt
+pub begun-few : (g : Ground) (underflow : Bool) (c : Climb) (n : Resumed) → Sized g → c.rungs ≡ 0 → begun_of g underflow c ≡ Ok n → n.climb.rungs ≤ 1000
+begun-few g underflow c n s z e =
+    let w = subst (Resumes (steps_of g)) e (begun-resumes g underflow c z) in
+    omega (arith, w.0, steps-few g s)
 
 pub reach-arrives : (g : Ground) (underflow : Bool) (c : Climb) → c.rungs ≡ 0 → Arrives g (reach_of g underflow c)
 unfolding reach_of resting_of
@@ -117,7 +115,7 @@ reach-arrives g underflow c z = go (eqb (steps_of g) 0) underflow refl
     none e = let s : steps_of g ≡ 0 = eqb-true (steps_of g) 0 e in wanted-rungs g c ∙ z ∙ sym s
 
     go : (a b : Bool) → eqb (steps_of g) 0 ≡ a
-        → Arrives g (cond a (cond b (reached.Marked (wanted_of g c)) (reached.OnScale (wanted_of g c))) (resumed_of g (begun_of g underflow c)))
+        → Arrives g (cond a (Ok (cond b (reached.Marked (wanted_of g c)) (reached.OnScale (wanted_of g c)))) (resumed_of g (begun_of g underflow c)))
     go true true e = none e
     go true false e = none e
     go false b e = resumed-arrives g _ (begun-resumes g underflow c z)
@@ -125,13 +123,8 @@ reach-arrives g underflow c z = go (eqb (steps_of g) 0) underflow refl
 arrived-few : (g : Ground) (c : Climb) → Sized g → c.rungs ≡ steps_of g → c.rungs ≤ 1000
 arrived-few g c s e = subst (λ (n : ℕ). n ≤ 1000) (sym e) (steps-few g s)
 
-pub on-scale-few : (g : Ground) (underflow : Bool) (c d : Climb) (r : Reached) → r ≡ reach_of g underflow c → r ≡ reached.OnScale d → Sized g → c.rungs ≡ 0 → d.rungs ≤ 1000
-on-scale-few g underflow c d r e o s z = arrived-few g d s (subst (Arrives g) (sym e ∙ o) (reach-arrives g underflow c z))
+pub on-scale-few : (g : Ground) (underflow : Bool) (c d : Climb) → reach_of g underflow c ≡ Ok (reached.OnScale d) → Sized g → c.rungs ≡ 0 → d.rungs ≤ 1000
+on-scale-few g underflow c d e s z = arrived-few g d s (subst (Arrives g) e (reach-arrives g underflow c z))
 
-pub marked-few : (g : Ground) (underflow : Bool) (c d : Climb) (r : Reached) → r ≡ reach_of g underflow c → r ≡ reached.Marked d → Sized g → c.rungs ≡ 0 → d.rungs ≤ 1000
-marked-few g underflow c d r e o s z = arrived-few g d s (subst (Arrives g) (sym e ∙ o) (reach-arrives g underflow c z))
-
-pub reached-few : (g : Ground) (underflow : Bool) (c : Climb) (r : Reached) → r ≡ reach_of g underflow c → Sized g → c.rungs ≡ 0 → MarkedFew r
-reached-few g underflow c (reached.OnScale d) e s z = tt
-reached-few g underflow c (reached.Marked d) e s z = marked-few g underflow c d (reached.Marked d) e refl s z
-reached-few g underflow c (reached.Refused refusal) e s z = tt
+pub marked-few : (g : Ground) (underflow : Bool) (c d : Climb) → reach_of g underflow c ≡ Ok (reached.Marked d) → Sized g → c.rungs ≡ 0 → d.rungs ≤ 1000
+marked-few g underflow c d e s z = arrived-few g d s (subst (Arrives g) e (reach-arrives g underflow c z))

@@ -6,12 +6,14 @@ use mathlib.Core.List.{List, ◌++◌}
 use mathlib.Core.Logic.{◌⊎◌, inl, inr}
 use Prim.Native.Nat.{ℕ, zero, suc, ◌+◌, ◌-◌, ◌*◌, ◌≤◌}
 use native.Mathlib.Omega.{arith}
+use Rattle.std.specs.Prelude.{Result, Ok, Err}
 use lib.ListN.{length, take, replicate, length-append, length-replicate}
 use lib.Seq.{take-append_seam}
 use lib.Ieee.{Float, binary64, of_bits}
 use Rattle.laws.specs.Operators.{◌⊖◌}
 use Rattle.machine.specs.Small.{one}
 use Rattle.complex.specs.declared.number.Complex.{Complex}
+use Rattle.refusal.specs.declared.refusal.Refusal.{Refusal}
 use Rattle.refusal.specs.declared.refusal.Refusal.TheVariants as refusals
 use Rattle.recurrence.specs.declared.state.Climb.{Climb}
 use Rattle.recurrence.proofs.FillFacts.{fill-length}
@@ -22,20 +24,19 @@ use Rattle.right_half_plane.specs.declared.seeds.Seeded.{Seeded}
 use Rattle.right_half_plane.specs.declared.reach.Reached.{Reached}
 use Rattle.right_half_plane.specs.declared.reach.Reached.TheVariants as reached
 use Rattle.right_half_plane.specs.declared.lead.Lead.{Lead}
-use Rattle.right_half_plane.specs.declared.kernel.Ending.{Ending}
-use Rattle.right_half_plane.specs.declared.kernel.Ending.TheVariants.{Answered, Refused}
+use Rattle.right_half_plane.specs.declared.kernel.Counts.{Counts}
 use Rattle.right_half_plane.specs.Ground.{ground_of}
 use Rattle.right_half_plane.specs.Seeds.{seed_of}
 use Rattle.right_half_plane.specs.Lead.{on_scale_lead}
-use Rattle.right_half_plane.specs.Kernel.{rest_of, lead_cells, lead_kernel, refused_kernel, reached_kernel, pair_kernel, finished_kernel, seeds_kernel, kernel_of}
+use Rattle.right_half_plane.specs.Kernel.{rest_of, lead_cells, lead_kernel, refused_kernel, reached_kernel, pair_kernel, finished_kernel, seeds_kernel, seeded_kernel, kernel_of}
 use Rattle.right_half_plane.proofs.Counts.{Arrives, reach-arrives}
 use Rattle.right_half_plane.proofs.LeadFacts.{lead-zeros}
-use Rattle.right_half_plane.proofs.SeedFacts.{Kind, seeding}
+use Rattle.right_half_plane.proofs.SeedFacts.{Kind, Stages, seeding}
 use Rattle.right_half_plane.proofs.Answers.{alone-is}
 
-abbrev pub Delivers : ℕ → Ending → List Float → Type 0
-Delivers n (Answered counts) cells = (counts.zeros ≤ n) × (length cells ≡ n * 2) × (take (counts.zeros * 2) cells ≡ replicate (counts.zeros * 2) (of_bits binary64 0))
-Delivers n (Refused refusal) cells = (refusal ≡ refusals.Start) ⊎ (refusal ≡ refusals.Climb)
+abbrev pub Delivers : ℕ → Result Counts Refusal → List Float → Type 0
+Delivers n (Ok counts) cells = (counts.zeros ≤ n) × (length cells ≡ n * 2) × (take (counts.zeros * 2) cells ≡ replicate (counts.zeros * 2) (of_bits binary64 0))
+Delivers n (Err refusal) cells = (refusal ≡ refusals.Start) ⊎ (refusal ≡ refusals.Climb)
 
 rest-length : (g : Ground) (lead : Lead) (k : ℕ) → length (rest_of g lead k).cells ≡ k * 2
 unfolding rest_of
@@ -68,14 +69,14 @@ module _ (g : Ground) (s : Seeded) where
   unfolding on_scale_lead
   none c = omega arith
 
-  reached-delivers : (r : Reached) → Arrives g r → Delivers g.count (reached_kernel g s r).ending (reached_kernel g s r).cells
+  reached-delivers : (r : Result Reached Refusal) → Arrives g r → Delivers g.count (reached_kernel g s r).ending (reached_kernel g s r).cells
   unfolding reached_kernel refused_kernel
-  reached-delivers (reached.OnScale c) e = lead-delivers _ (none c)
-  reached-delivers (reached.Marked c) e = lead-delivers _ (lead-zeros g c)
-  reached-delivers (reached.Refused refusal) e = inr e
+  reached-delivers (Ok (reached.OnScale c)) e = lead-delivers _ (none c)
+  reached-delivers (Ok (reached.Marked c)) e = lead-delivers _ (lead-zeros g c)
+  reached-delivers (Err refusal) e = inr e
 
   seeds-delivers : (v : Seeds) → Kind g v → Delivers g.count (seeds_kernel g s v).ending (seeds_kernel g s v).cells
-  unfolding seeds_kernel finished_kernel pair_kernel refused_kernel
+  unfolding seeds_kernel finished_kernel pair_kernel
   seeds-delivers (seeds.Finished value) e = (few g.count, pair g.count (alone-is g e).1, refl)
     where
       few : (n : ℕ) → 0 ≤ n
@@ -84,10 +85,14 @@ module _ (g : Ground) (s : Seeded) where
       pair : (n : ℕ) → n ≡ 1 → 2 ≡ n * 2
       pair n e = omega arith
   seeds-delivers (seeds.Pair first second) e = reached-delivers _ (reach-arrives g s.underflow (record { older = first; newer = second; state = s.state; rungs = 0 }) refl)
-  seeds-delivers (seeds.Refused refusal) e = inl e
+
+seeded-delivers : (g : Ground) (r : Result Seeded Refusal) → Stages g r → Delivers g.count (seeded_kernel g r).ending (seeded_kernel g r).cells
+unfolding seeded_kernel refused_kernel
+seeded-delivers g (Ok s) e = seeds-delivers g s s.seeds e.kind
+seeded-delivers g (Err refusal) e = inl e
 
 pub kernel-delivers : (scaled : Bool) (order : Float) (z : Complex) (modulus : Float) (n : ℕ) → let k = kernel_of scaled order z modulus n in Delivers n k.ending k.cells
 unfolding kernel_of ground_of
 kernel-delivers scaled order z modulus n =
     let g = ground_of order z modulus n in
-    seeds-delivers g (seed_of g scaled) (seed_of g scaled).seeds (seeding g scaled).kind
+    seeded-delivers g (seed_of g scaled) (seeding g scaled)

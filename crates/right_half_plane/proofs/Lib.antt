@@ -2,6 +2,7 @@
 pub mod Answers
 pub mod CellFacts
 pub mod Counts
+pub mod GrowthFacts
 pub mod LeadFacts
 pub mod LeadingDigits
 pub mod ModulusBound

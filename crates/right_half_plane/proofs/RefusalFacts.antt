@@ -4,9 +4,9 @@ use mathlib.Core.Logic.{◌⊎◌, inl, inr}
 use mathlib.Core.Bool.{Bool, true, false, not, ◌&&◌, ◌||◌, cond}
 use Prim.Native.Nat.{ℕ, ◌+◌}
 use native.Mathlib.Omega.{arith}
+use Rattle.std.specs.Prelude.{Result, Ok, Err, is_err}
 use lib.Dec.{eqb}
 use lib.Ieee.{Float, le}
-use Rattle.std.specs.Prelude.{Result, Ok, Err, is_err}
 use Rattle.machine.specs.Small.{two}
 use Rattle.complex.specs.declared.number.Complex.{Complex}
 use Rattle.complex.specs.Functions.{argument_of}
@@ -29,49 +29,34 @@ use Rattle.right_half_plane.specs.declared.ground.Ground.{Ground}
 use Rattle.right_half_plane.specs.declared.seeds.Seeds.{Seeds}
 use Rattle.right_half_plane.specs.declared.seeds.Seeds.TheVariants as seeds
 use Rattle.right_half_plane.specs.declared.seeds.Seeded.{Seeded}
-use Rattle.right_half_plane.specs.declared.recover.Recovered.{Recovered}
-use Rattle.right_half_plane.specs.declared.recover.Recovered.TheVariants as recovered
+use Rattle.right_half_plane.specs.declared.recover.Resumed.{Resumed}
 use Rattle.right_half_plane.specs.declared.reach.Reached.{Reached}
 use Rattle.right_half_plane.specs.declared.reach.Reached.TheVariants as reached
-use Rattle.right_half_plane.specs.declared.kernel.Ending.{Ending}
-use Rattle.right_half_plane.specs.declared.kernel.Ending.TheVariants.{Answered, Refused}
+use Rattle.right_half_plane.specs.declared.kernel.Counts.{Counts}
 use Rattle.right_half_plane.specs.Ground.{ground_of, is_alone}
-use Rattle.right_half_plane.specs.ByTemme.{temme_pair, temme_seeds}
+use Rattle.right_half_plane.specs.ByTemme.{temme_seeds}
 use Rattle.right_half_plane.specs.ByMiller.{is_half, order_of, point_with, is_far, coefficient_of, half_seeds, miller_seeds, other_seeds}
 use Rattle.right_half_plane.specs.Seeds.{is_near, seed_of}
 use Rattle.right_half_plane.specs.Recover.{is_zero_pair, neighbours_of, settled_of, recover_of}
 use Rattle.right_half_plane.specs.Reach.{steps_of, resting_of, climbed_of, resumed_of, begun_of, reach_of}
-use Rattle.right_half_plane.specs.Kernel.{lead_kernel, refused_kernel, reached_kernel, pair_kernel, finished_kernel, seeds_kernel, kernel_of}
-use Rattle.right_half_plane.specs.Refusals.{takes_miller, start_refused, climb_taken, climb_end, no_neighbours, a_zero_pair, climb_fails, climb_refused}
+use Rattle.right_half_plane.specs.Kernel.{lead_kernel, refused_kernel, reached_kernel, pair_kernel, finished_kernel, seeds_kernel, seeded_kernel, kernel_of}
+use Rattle.right_half_plane.specs.Refusals.{takes_miller, start_refused, climb_taken, climb_end, no_neighbours, a_zero_pair, climb_fails, seeded_fails, climb_refused}
 use Rattle.right_half_plane.proofs.Counts.{Arrives, reach-arrives}
-use Rattle.right_half_plane.proofs.SeedFacts.{Kind, seeding}
+use Rattle.right_half_plane.proofs.SeedFacts.{Stages, seeding}
 
 -- an ending by this refusal
-abbrev pub refuses : Refusal → Ending → Bool
-refuses refusal (Answered c) = false
-refuses refusal (Refused r) = eqb (number_of r) (number_of refusal)
+abbrev pub refuses : Refusal → Result Counts Refusal → Bool
+refuses refusal (Ok c) = false
+refuses refusal (Err r) = eqb (number_of r) (number_of refusal)
 
 -- ---- the seed stage
-abbrev unseeded : Seeds → Bool
-unseeded (seeds.Finished value) = false
-unseeded (seeds.Pair first second) = false
-unseeded (seeds.Refused refusal) = true
-
-temme-seeded : (g : Ground) (scaled : Bool) → unseeded (temme_seeds g scaled).seeds ≡ false
-unfolding temme_seeds temme_pair
-temme-seeded g scaled = either (is_alone g) _ _ refl refl
-  where
-    either : (b : Bool) (s t : Seeded) → unseeded s.seeds ≡ false → unseeded t.seeds ≡ false → unseeded (cond b s t).seeds ≡ false
-    either true s t p q = p
-    either false s t p q = q
-
-miller-seeded : (u : Bool) (m : Result Miller Refusal) → unseeded (miller_seeds u m).seeds ≡ is_err m
+miller-seeded : (u : Bool) (m : Result Miller Refusal) → is_err (miller_seeds u m) ≡ is_err m
 unfolding miller_seeds
 miller-seeded u (Ok m) = refl
 miller-seeded u (Err r) = refl
 
-seed-exactly : (g : Ground) (scaled : Bool) → start_refused g ≡ unseeded (seed_of g scaled).seeds
-unfolding start_refused takes_miller seed_of is_near other_seeds half_seeds
+seed-exactly : (g : Ground) (scaled : Bool) → start_refused g ≡ is_err (seed_of g scaled)
+unfolding start_refused takes_miller seed_of is_near other_seeds
 seed-exactly g scaled = go (is_half g.fraction) (le g.modulus two)
   where
     underflow : Bool
@@ -86,47 +71,46 @@ seed-exactly g scaled = go (is_half g.fraction) (le g.modulus two)
     none : Bool
     none = no_start (point_with g.z g.modulus (sqrt_of g.modulus) (argument_of g.z)) (order_of g.fraction g.square)
 
-    go : (a b : Bool) → ((not a && not b) && none) ≡ unseeded (cond (not a && b) (temme_seeds g scaled) (cond a (half_seeds underflow value) (miller_seeds underflow m))).seeds
+    go : (a b : Bool) → ((not a && not b) && none) ≡ is_err (cond (not a && b) (Ok (temme_seeds g scaled)) (cond a (Ok (half_seeds underflow value)) (miller_seeds underflow m)))
     go true true = refl
     go true false = refl
-    go false true = sym (temme-seeded g scaled)
+    go false true = refl
     go false false = refused-exactly (point_with g.z g.modulus (sqrt_of g.modulus) (argument_of g.z)) (order_of g.fraction g.square) value (is_alone g) ∙ sym (miller-seeded underflow m)
 
 -- ---- the kernel, from the seeds
 module _ (g : Ground) (s : Seeded) where
-  reached-start : (r : Reached) → Arrives g r → refuses refusals.Start (reached_kernel g s r).ending ≡ false
+  reached-start : (r : Result Reached Refusal) → Arrives g r → refuses refusals.Start (reached_kernel g s r).ending ≡ false
   unfolding reached_kernel lead_kernel refused_kernel
-  reached-start (reached.OnScale c) e = refl
-  reached-start (reached.Marked c) e = refl
-  reached-start (reached.Refused refusal) e = rw e
+  reached-start (Ok (reached.OnScale c)) e = refl
+  reached-start (Ok (reached.Marked c)) e = refl
+  reached-start (Err refusal) e = rw e
 
-  seeds-start : (v : Seeds) → Kind g v → refuses refusals.Start (seeds_kernel g s v).ending ≡ unseeded v
-  unfolding seeds_kernel finished_kernel pair_kernel refused_kernel
-  seeds-start (seeds.Finished value) e = refl
-  seeds-start (seeds.Pair first second) e = reached-start _ (reach-arrives g s.underflow (record { older = first; newer = second; state = s.state; rungs = 0 }) refl)
-  seeds-start (seeds.Refused refusal) e = rw e
+  seeds-start : (v : Seeds) → refuses refusals.Start (seeds_kernel g s v).ending ≡ false
+  unfolding seeds_kernel finished_kernel pair_kernel
+  seeds-start (seeds.Finished value) = refl
+  seeds-start (seeds.Pair first second) = reached-start _ (reach-arrives g s.underflow (record { older = first; newer = second; state = s.state; rungs = 0 }) refl)
 
   -- ---- the climb out of underflow
-  abbrev stops : Recovered → Bool
-  stops (recovered.Neighbours n) = false
-  stops (recovered.Refused refusal) = eqb (number_of refusal) 7
+  abbrev stops : Result Resumed Refusal → Bool
+  stops (Ok n) = false
+  stops (Err refusal) = eqb (number_of refusal) 7
 
   settled-exactly : (r : Search) → stops (settled_of r) ≡ (no_neighbours r || a_zero_pair r)
   unfolding settled_of neighbours_of is_found no_neighbours a_zero_pair
   settled-exactly r = go (r.before.kept && r.latest.kept) (is_zero_pair r.before.value || is_zero_pair r.latest.value)
     where
-      n : Recovered
-      n = recovered.Neighbours (record { climb = record { older = r.before.value; newer = r.latest.value; state = NearUnder; rungs = r.rungs }; next_offset = r.rungs + 2 })
+      n : Result Resumed Refusal
+      n = Ok (record { climb = record { older = r.before.value; newer = r.latest.value; state = NearUnder; rungs = r.rungs }; next_offset = r.rungs + 2 })
 
-      go : (f z : Bool) → stops (cond f (cond z (recovered.Refused refusals.Climb) n) (recovered.Refused refusals.Climb)) ≡ (not f || z)
+      go : (f z : Bool) → stops (cond f (cond z (Err refusals.Climb) n) (Err refusals.Climb)) ≡ (not f || z)
       go true true = refl
       go true false = refl
       go false z = refl
 
-  resumed-exactly : (r : Recovered) → refuses refusals.Climb (reached_kernel g s (resumed_of g r)).ending ≡ stops r
+  resumed-exactly : (r : Result Resumed Refusal) → refuses refusals.Climb (reached_kernel g s (resumed_of g r)).ending ≡ stops r
   unfolding resumed_of climbed_of reached_kernel lead_kernel refused_kernel
-  resumed-exactly (recovered.Neighbours n) = refl
-  resumed-exactly (recovered.Refused refusal) = refl
+  resumed-exactly (Ok n) = refl
+  resumed-exactly (Err refusal) = refl
 
   module _ (c : Climb) where
     abbrev failed : Bool
@@ -137,7 +121,7 @@ module _ (g : Ground) (s : Seeded) where
     begun-exactly true = settled-exactly _
     begun-exactly false = refl
 
-    resting-none : (u : Bool) → refuses refusals.Climb (reached_kernel g s (resting_of g u c)).ending ≡ false
+    resting-none : (u : Bool) → refuses refusals.Climb (reached_kernel g s (Ok (resting_of g u c))).ending ≡ false
     unfolding resting_of reached_kernel lead_kernel
     resting-none true = refl
     resting-none false = refl
@@ -154,30 +138,38 @@ module _ (g : Ground) (s : Seeded) where
         some true x = refl
         some false x = refl
 
-        go : (a : Bool) → refuses refusals.Climb (reached_kernel g s (cond a (resting_of g u c) (resumed_of g (begun_of g u c)))).ending ≡ ((u && not a) && failed)
+        go : (a : Bool) → refuses refusals.Climb (reached_kernel g s (cond a (Ok (resting_of g u c)) (resumed_of g (begun_of g u c)))).ending ≡ ((u && not a) && failed)
         go true = resting-none u ∙ none u failed
         go false = resumed-exactly (begun_of g u c) ∙ begun-exactly u ∙ some u failed
 
-  seeds-climb : (v : Seeds) → Kind g v → refuses refusals.Climb (seeds_kernel g s v).ending ≡ climb_fails g s v
-  unfolding seeds_kernel finished_kernel pair_kernel refused_kernel climb_fails climb_taken
-  seeds-climb (seeds.Finished value) e = refl
-  seeds-climb (seeds.Pair first second) e = reach-exactly (record { older = first; newer = second; state = s.state; rungs = 0 }) s.underflow
-  seeds-climb (seeds.Refused refusal) e = rw e
+  seeds-climb : (v : Seeds) → refuses refusals.Climb (seeds_kernel g s v).ending ≡ climb_fails g s v
+  unfolding seeds_kernel finished_kernel pair_kernel climb_fails climb_taken
+  seeds-climb (seeds.Finished value) = refl
+  seeds-climb (seeds.Pair first second) = reach-exactly (record { older = first; newer = second; state = s.state; rungs = 0 }) s.underflow
 
 -- ---- the kernel of a call
+module _ (g : Ground) where
+  seeded-start : (r : Result Seeded Refusal) → Stages g r → refuses refusals.Start (seeded_kernel g r).ending ≡ is_err r
+  unfolding seeded_kernel refused_kernel
+  seeded-start (Ok s) e = seeds-start g s s.seeds
+  seeded-start (Err refusal) e = rw e
+
+  seeded-climb : (r : Result Seeded Refusal) → Stages g r → refuses refusals.Climb (seeded_kernel g r).ending ≡ seeded_fails g r
+  unfolding seeded_kernel refused_kernel seeded_fails
+  seeded-climb (Ok s) e = seeds-climb g s s.seeds
+  seeded-climb (Err refusal) e = rw e
+
 pub start-exactly : (scaled : Bool) (order : Float) (z : Complex) (modulus : Float) (n : ℕ) → start_refused (ground_of order z modulus n) ≡ refuses refusals.Start (kernel_of scaled order z modulus n).ending
 unfolding kernel_of
 start-exactly scaled order z modulus n =
     let g = ground_of order z modulus n in
-    let s = seed_of g scaled in
-    seed-exactly g scaled ∙ sym (seeds-start g s s.seeds (seeding g scaled).kind)
+    seed-exactly g scaled ∙ sym (seeded-start g (seed_of g scaled) (seeding g scaled))
 
 pub climb-exactly : (scaled : Bool) (order : Float) (z : Complex) (modulus : Float) (n : ℕ) → climb_refused (ground_of order z modulus n) scaled ≡ refuses refusals.Climb (kernel_of scaled order z modulus n).ending
 unfolding kernel_of climb_refused
 climb-exactly scaled order z modulus n =
     let g = ground_of order z modulus n in
-    let s = seed_of g scaled in
-    sym (seeds-climb g s s.seeds (seeding g scaled).kind)
+    sym (seeded-climb g (seed_of g scaled) (seeding g scaled))
 
 -- where no two neighbours are found, all offsets were tried
 pub all-offsets : (g : Ground) (first second : Complex) → no_neighbours (climb_end g first second) ≡ true → (climb_end g first second).rungs ≡ steps_of g

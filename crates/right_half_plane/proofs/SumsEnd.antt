@@ -2,6 +2,7 @@
 use mathlib.Core.Path.{◌≡◌, refl, sym, subst}
 use mathlib.Core.Bool.{Bool, true, false, not, cond}
 use Prim.Native.Nat.{ℕ}
+use Rattle.std.specs.Prelude.{Result, Ok, Err}
 use lib.Dec.{T}
 use lib.Ieee.{Float, binary64, fits, neg, le}
 use lib.Ieee.Fits.{and_r}
@@ -9,7 +10,6 @@ use Rattle.laws.specs.Operators.{◌⊖◌}
 use Rattle.laws.proofs.Value.{value-sign}
 use Rattle.laws.proofs.Relative.{nonnegative, nonnegative-finite, nonnegative-value}
 use lib.Ieee.Positive.{num, den}
-use Rattle.std.specs.Prelude.{Result, Ok, Err}
 use Rattle.machine.specs.Small.{half, two}
 use Rattle.rounding.specs.Round.{round_of}
 use Rattle.rounding.proofs.Rest.{rest-between}
@@ -26,7 +26,7 @@ use Rattle.right_half_plane.specs.declared.seeds.Seeded.{Seeded}
 use Rattle.right_half_plane.specs.Ground.{ground_of, is_alone}
 use Rattle.right_half_plane.specs.ByTemme.{temme_seeds}
 use Rattle.right_half_plane.specs.ByMiller.{is_half, order_of, point_with, is_far, coefficient_of, half_seeds, miller_seeds, other_seeds}
-use Rattle.right_half_plane.specs.Seeds.{is_near, seed_of}
+use Rattle.right_half_plane.specs.Seeds.{is_near, seed_of, terms_of}
 
 -- the fraction of an order with no minus sign lies between -1/2 and 1/2
 pub fraction-between : (order : Float) → T (fits binary64 order) → T (nonnegative order) → T (le (neg half) (order ⊖ round_of order)) × T (le (order ⊖ round_of order) half)
@@ -34,12 +34,12 @@ fraction-between order F p = rest-between order F (nonnegative-finite order p) (
 
 -- Temme's branch: the seeds are Temme's, read from the sum that ends
 pub record NearEnds (g : Ground) (scaled : Bool) : Type 0 where
-  pub seeds : seed_of g scaled ≡ temme_seeds g scaled
-  pub terms : (seed_of g scaled).terms ≡ (total_of g.z g.modulus (complex_ln_of g.two_over_z) g.fraction g.square).terms
+  pub seeds : seed_of g scaled ≡ Ok (temme_seeds g scaled)
+  pub terms : terms_of (seed_of g scaled) ≡ (total_of g.z g.modulus (complex_ln_of g.two_over_z) g.fraction g.square).terms
   pub made : MadeOf g.z g.modulus (complex_ln_of g.two_over_z) g.fraction g.square
   pub ends : EndByTests g.z g.modulus (complex_ln_of g.two_over_z) g.fraction g.square
 
-near-seeds : (g : Ground) (scaled : Bool) → is_near g ≡ true → seed_of g scaled ≡ temme_seeds g scaled
+near-seeds : (g : Ground) (scaled : Bool) → is_near g ≡ true → seed_of g scaled ≡ Ok (temme_seeds g scaled)
 unfolding seed_of
 near-seeds g scaled e = rw e
 
@@ -63,19 +63,19 @@ near-ends scaled order z modulus n F p e =
     let f = fraction-between order F p in
     record {
       seeds = near-seeds g scaled e;
-      terms = subst (λ (s : Seeded). s.terms ≡ (total_of g.z g.modulus (complex_ln_of g.two_over_z) g.fraction g.square).terms) (sym (near-seeds g scaled e)) (temme-terms g scaled);
+      terms = subst (λ (s : Result Seeded Refusal). terms_of s ≡ (total_of g.z g.modulus (complex_ln_of g.two_over_z) g.fraction g.square).terms) (sym (near-seeds g scaled e)) (unfold terms_of in temme-terms g scaled);
       made = made_of g.z g.modulus (complex_ln_of g.two_over_z) g.fraction g.square;
       ends = begun-end g.z g.modulus (complex_ln_of g.two_over_z) g.fraction (small-modulus g e) f.0 f.1;
     }
 
 -- ---- any other branch: no term, and no log-gamma
-miller-none : (u : Bool) (m : Result Miller Refusal) → (miller_seeds u m).terms ≡ 0
-unfolding miller_seeds
+miller-none : (u : Bool) (m : Result Miller Refusal) → terms_of (miller_seeds u m) ≡ 0
+unfolding miller_seeds terms_of
 miller-none u (Ok m) = refl
 miller-none u (Err refusal) = refl
 
-other_none : (g : Ground) (scaled : Bool) → (other_seeds g scaled).terms ≡ 0
-unfolding other_seeds half_seeds
+other_none : (g : Ground) (scaled : Bool) → terms_of (other_seeds g scaled) ≡ 0
+unfolding other_seeds half_seeds terms_of
 other_none g scaled = go (is_half g.fraction)
   where
     underflow : Bool
@@ -87,10 +87,10 @@ other_none g scaled = go (is_half g.fraction)
     m : Result Miller Refusal
     m = miller.seeds_of (point_with g.z g.modulus (sqrt_of g.modulus) (argument_of g.z)) (order_of g.fraction g.square) value (is_alone g)
 
-    go : (b : Bool) → (cond b (half_seeds underflow value) (miller_seeds underflow m)).terms ≡ 0
+    go : (b : Bool) → terms_of (cond b (Ok (half_seeds underflow value)) (miller_seeds underflow m)) ≡ 0
     go true = refl
     go false = miller-none underflow m
 
-pub far_none : (g : Ground) (scaled : Bool) → is_near g ≡ false → (seed_of g scaled ≡ other_seeds g scaled) × ((seed_of g scaled).terms ≡ 0)
+pub far_none : (g : Ground) (scaled : Bool) → is_near g ≡ false → (seed_of g scaled ≡ other_seeds g scaled) × (terms_of (seed_of g scaled) ≡ 0)
 unfolding seed_of
 far_none g scaled e = (rw e, rw e (other_none g scaled))

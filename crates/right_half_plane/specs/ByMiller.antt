@@ -15,14 +15,14 @@ use Rattle.complex.specs.Functions.{argument_of, complex_exp_of, at_half_angle}
 use Rattle.machine.specs.Magnitude.{magnitude_of}
 use Rattle.recurrence.specs.declared.state.OverflowState.{OverflowState}
 use Rattle.recurrence.specs.declared.state.OverflowState.TheVariants.{NearUnder, None}
-use Rattle.refusal.specs.declared.refusal.Refusal.{Refusal}
 use Rattle.miller.specs.declared.point.Point.{Point}
 use Rattle.miller.specs.declared.point.Order.{Order}
 use Rattle.miller.specs.Point.{is_real, point_of}
 use Rattle.miller.specs.declared.seeds.Miller.{Miller}
 use Rattle.miller.specs.Seeds as miller
+use Rattle.refusal.specs.declared.refusal.Refusal.{Refusal}
 use Rattle.right_half_plane.specs.declared.ground.Ground.{Ground}
-use Rattle.right_half_plane.specs.declared.seeds.Seeds.TheVariants.{Pair, Refused}
+use Rattle.right_half_plane.specs.declared.seeds.Seeds.TheVariants.{Pair}
 use Rattle.right_half_plane.specs.declared.seeds.Seeded.{Seeded}
 use Rattle.right_half_plane.specs.Ground.{is_alone}
 
@@ -52,16 +52,15 @@ coefficient_of scaled underflow z root angle =
 unfoldable pub far_state : Bool → OverflowState
 far_state underflow = cond underflow NearUnder None
 
-unfoldable pub miller_seeds : Bool → Result Miller Refusal → Seeded
+unfoldable pub miller_seeds : Bool → Result Miller Refusal → Result Seeded Refusal
 miller_seeds underflow (Ok m) =
-    record { seeds = Pair m.first m.second; state = far_state underflow; underflow = underflow; terms = 0; backward = m.backward }
-miller_seeds underflow (Err refusal) =
-    record { seeds = Refused refusal; state = far_state underflow; underflow = underflow; terms = 0; backward = 0 }
+    Ok (record { seeds = Pair m.first m.second; state = far_state underflow; underflow = underflow; terms = 0; backward = m.backward })
+miller_seeds underflow (Err refusal) = Err refusal
 
 unfoldable pub half_seeds : Bool → Complex → Seeded
 half_seeds underflow value = record { seeds = Pair value value; state = far_state underflow; underflow = underflow; terms = 0; backward = 0 }
 
-unfoldable pub other_seeds : Ground → Bool → Seeded
+unfoldable pub other_seeds : Ground → Bool → Result Seeded Refusal
 other_seeds g scaled =
     let root = sqrt_of g.modulus in
     let angle = argument_of g.z in
@@ -69,5 +68,5 @@ other_seeds g scaled =
     let value = coefficient_of scaled underflow g.z root angle in
     let point = point_with g.z g.modulus root angle in
     cond (is_half g.fraction)
-    (half_seeds underflow value)
+    (Ok (half_seeds underflow value))
     (miller_seeds underflow (miller.seeds_of point (order_of g.fraction g.square) value (is_alone g)))

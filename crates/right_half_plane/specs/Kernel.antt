@@ -1,6 +1,6 @@
 -- K for n consecutive orders: what is returned, and what the 2 n cells hold. ZBKNU; `k_right_half_plane` of src/amos/right_half_plane.rs.
 -- Definitions only.
-use Rattle.std.specs.Prelude.{ℕ, zero, suc, ◌+◌, ◌-◌, ◌*◌, ◌≤◌, Bool, List, [], ◌∷◌, ◌++◌, replicate, Float}
+use Rattle.std.specs.Prelude.{ℕ, zero, suc, ◌+◌, ◌-◌, ◌*◌, ◌≤◌, Bool, List, [], ◌∷◌, ◌++◌, replicate, Result, Ok, Err, Float}
 use Rattle.laws.specs.Operators.{◌⊖◌}
 use Rattle.machine.specs.Small.{nothing, one}
 use Rattle.complex.specs.declared.number.Complex.{Complex}
@@ -13,8 +13,7 @@ use Rattle.right_half_plane.specs.declared.seeds.Seeded.{Seeded}
 use Rattle.right_half_plane.specs.declared.reach.Reached.{Reached}
 use Rattle.right_half_plane.specs.declared.reach.Reached.TheVariants as reached
 use Rattle.right_half_plane.specs.declared.lead.Lead.{Lead}
-use Rattle.right_half_plane.specs.declared.kernel.Ending.{Ending}
-use Rattle.right_half_plane.specs.declared.kernel.Ending.TheVariants.{Answered, Refused}
+use Rattle.right_half_plane.specs.declared.kernel.Counts.{Counts}
 use Rattle.right_half_plane.specs.Ground.{ground_of}
 use Rattle.right_half_plane.specs.Seeds.{seed_of}
 use Rattle.right_half_plane.specs.Reach.{reach_of}
@@ -45,13 +44,13 @@ lead_cells g lead = replicate (lead.zeros * 2) nothing ++ (rest_of g lead (g.cou
 
 -- ---- how it ends, and the cells of an answer
 pub record Kernel : Type 0 where
-  pub ending : Ending
+  pub ending : Result Counts Refusal
   pub cells : List Float
 
 unfoldable pub lead_kernel : Ground → Seeded → Lead → Kernel
 lead_kernel g s lead = record {
   ending =
-      Answered
+      Ok
       (record {
         zeros = lead.zeros;
         longest_sum = s.terms;
@@ -62,12 +61,12 @@ lead_kernel g s lead = record {
 }
 
 unfoldable pub refused_kernel : Refusal → Kernel
-refused_kernel refusal = record { ending = Refused refusal; cells = [] }
+refused_kernel refusal = record { ending = Err refusal; cells = [] }
 
-unfoldable pub reached_kernel : Ground → Seeded → Reached → Kernel
-reached_kernel g s (reached.OnScale c) = lead_kernel g s (on_scale_lead c)
-reached_kernel g s (reached.Marked c) = lead_kernel g s (first_lead g c)
-reached_kernel g s (reached.Refused refusal) = refused_kernel refusal
+unfoldable pub reached_kernel : Ground → Seeded → Result Reached Refusal → Kernel
+reached_kernel g s (Ok (reached.OnScale c)) = lead_kernel g s (on_scale_lead c)
+reached_kernel g s (Ok (reached.Marked c)) = lead_kernel g s (first_lead g c)
+reached_kernel g s (Err refusal) = refused_kernel refusal
 
 unfoldable pub pair_kernel : Ground → Seeded → Complex → Complex → Kernel
 pair_kernel g s first second =
@@ -75,26 +74,28 @@ pair_kernel g s first second =
 
 unfoldable pub finished_kernel : Seeded → Complex → Kernel
 finished_kernel s value = record {
-  ending = Answered (record { zeros = 0; longest_sum = s.terms; rungs = 0; backward = s.backward });
+  ending = Ok (record { zeros = 0; longest_sum = s.terms; rungs = 0; backward = s.backward });
   cells = value.re ∷ value.im ∷ [];
 }
 
 unfoldable pub seeds_kernel : Ground → Seeded → Seeds → Kernel
 seeds_kernel g s (seeds.Finished value) = finished_kernel s value
 seeds_kernel g s (seeds.Pair first second) = pair_kernel g s first second
-seeds_kernel g s (seeds.Refused refusal) = refused_kernel refusal
+
+unfoldable pub seeded_kernel : Ground → Result Seeded Refusal → Kernel
+seeded_kernel g (Ok s) = seeds_kernel g s s.seeds
+seeded_kernel g (Err refusal) = refused_kernel refusal
 
 -- from the order v, the argument z, and its modulus
 unfoldable pub kernel_of : Bool → Float → Complex → Float → ℕ → Kernel
 kernel_of scaled order z modulus count =
     let g = ground_of order z modulus count in
-    let s = seed_of g scaled in
-    seeds_kernel g s s.seeds
+    seeded_kernel g (seed_of g scaled)
 
 -- what a buffer holds afterwards: the cells of an answer; a refusal leaves it as it was
-unfoldable pub after_if : Ending → List Float → List Float → List Float
-after_if (Answered counts) cells held = cells
-after_if (Refused refusal) cells held = held
+unfoldable pub after_if : Result Counts Refusal → List Float → List Float → List Float
+after_if (Ok counts) cells held = cells
+after_if (Err refusal) cells held = held
 
 unfoldable pub afterwards : Kernel → List Float → List Float
 afterwards k held = after_if k.ending k.cells held

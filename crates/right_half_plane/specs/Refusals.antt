@@ -1,5 +1,5 @@
 -- When K is refused by 6 and by 7, in docs/SCOPE.md's words. Definitions only.
-use Rattle.std.specs.Prelude.{Bool, false, not, ◌&&◌, ◌||◌, eqb}
+use Rattle.std.specs.Prelude.{Bool, false, not, ◌&&◌, ◌||◌, eqb, Result, Ok, Err}
 use Rattle.std.specs.Float.Ieee.{le}
 use Rattle.machine.specs.Small.{two}
 use Rattle.roots.specs.Sqrt.{sqrt_of}
@@ -10,9 +10,10 @@ use Rattle.recurrence.specs.Search.{search_at, search_from}
 use Rattle.recurrence.specs.declared.search.Search.{Search}
 use Rattle.recurrence.specs.declared.search.Rule.TheVariants.{OutOfUnderflow}
 use Rattle.miller.specs.NoStart.{no_start}
+use Rattle.refusal.specs.declared.refusal.Refusal.{Refusal}
 use Rattle.right_half_plane.specs.declared.ground.Ground.{Ground}
 use Rattle.right_half_plane.specs.declared.seeds.Seeds.{Seeds}
-use Rattle.right_half_plane.specs.declared.seeds.Seeds.TheVariants.{Finished, Pair, Refused}
+use Rattle.right_half_plane.specs.declared.seeds.Seeds.TheVariants.{Finished, Pair}
 use Rattle.right_half_plane.specs.declared.seeds.Seeded.{Seeded}
 use Rattle.right_half_plane.specs.ByMiller.{is_half, order_of, point_with}
 use Rattle.right_half_plane.specs.Seeds.{seed_of}
@@ -52,7 +53,10 @@ unfoldable pub climb_fails : Ground → Seeded → Seeds → Bool
 climb_fails g s (Pair first second) =
     climb_taken g s && (no_neighbours (climb_end g first second) || a_zero_pair (climb_end g first second))
 climb_fails g s (Finished value) = false
-climb_fails g s (Refused refusal) = false
+
+unfoldable pub seeded_fails : Ground → Result Seeded Refusal → Bool
+seeded_fails g (Ok s) = climb_fails g s s.seeds
+seeded_fails g (Err refusal) = false
 
 unfoldable pub climb_refused : Ground → Bool → Bool
-climb_refused g scaled = let s = seed_of g scaled in climb_fails g s s.seeds
+climb_refused g scaled = seeded_fails g (seed_of g scaled)

@@ -1,2 +1,2 @@
 -- How it is computed, not what: the shapes that only the code's speed asks for.
-pub mod Led
+pub mod Growth

@@ -5,7 +5,7 @@ ghost use Rattle.std.specs.Prelude.{◌≡◌};
 ghost use Rattle.right_half_plane.specs.ByMiller.{is_half, rotation_of, order_of, point_with, is_far, coefficient_of, far_state};
 ghost use Rattle.right_half_plane.specs.ByMiller.{miller_seeds, half_seeds, other_seeds};
 
-use crate::ground::{Ground, is_alone};
+use crate::ground::Ground;
 use crate::seeds::{Seeded, Seeds};
 use circular::cos_pi::cos_pi;
 use complex::functions::at_half_angle;
@@ -20,6 +20,7 @@ use refusal::refusal::Refusal;
 use roots::sqrt::sqrt;
 
 // the fraction is ±½
+#[tactic(auto, unfolding(crate::specs::ByMiller::is_half))]
 pub fn is_half(fraction: f64) -> bool
     ensures { result ≡ is_half fraction }
 {
@@ -36,6 +37,7 @@ fn rotation(fraction: f64) -> f64
     magnitude(cos_pi(fraction))
 }
 
+#[tactic(auto, unfolding(crate::specs::ByMiller::order_of))]
 fn order_of(fraction: f64, square: f64) -> Order
     ensures { result ≡ order_of fraction square }
 {
@@ -48,6 +50,7 @@ fn order_of(fraction: f64, square: f64) -> Order
 }
 
 // the real path takes the real part for the modulus, and asks for no angle
+#[tactic(auto, unfolding(crate::specs::ByMiller::point_with))]
 fn point_with(z: Complex, modulus: f64, root: f64, angle: f64) -> Point
     ensures { result ≡ point_with z modulus root angle }
 {
@@ -63,29 +66,26 @@ fn point_with(z: Complex, modulus: f64, root: f64, angle: f64) -> Point
 }
 
 // e^-z would underflow: the seeds stay without it
+#[tactic(auto, unfolding(crate::specs::ByMiller::is_far, machine::specs::Constants::approximation_limit))]
 fn is_far(scaled: bool, z: Complex) -> bool
     ensures { result ≡ is_far scaled z }
 {
-    if scaled {
-        return false;
-    }
-    z.re > Machine::APPROXIMATION_LIMIT
+    !scaled && z.re > Machine::APPROXIMATION_LIMIT
 }
 
 // the square root of π/2 over that of z
+#[tactic(auto, unfolding(crate::specs::ByMiller::coefficient_of))]
 fn coefficient(scaled: bool, underflow: bool, z: Complex, root: f64, angle: f64) -> Complex
     ensures { result ≡ coefficient_of scaled underflow z root angle }
 {
     let plain = real_over(1.2533141373155003, at_half_angle(root, angle));
-    if scaled {
-        return plain;
-    }
-    if underflow {
+    if scaled || underflow {
         return plain;
     }
     plain.product(z.opposite().exp())
 }
 
+#[tactic(auto, unfolding(crate::specs::ByMiller::far_state))]
 fn far_state(underflow: bool) -> OverflowState
     ensures { result ≡ far_state underflow }
 {
@@ -95,31 +95,21 @@ fn far_state(underflow: bool) -> OverflowState
     OverflowState::None
 }
 
-fn miller_seeds(underflow: bool, found: Result<Miller, Refusal>) -> Seeded
+#[tactic(auto, unfolding(crate::specs::ByMiller::miller_seeds))]
+fn miller_seeds(underflow: bool, found: Result<Miller, Refusal>) -> Result<Seeded, Refusal>
     ensures { result ≡ miller_seeds underflow found }
 {
-    match found {
-        Ok(m) => {
-            let first = m.first;
-            let second = m.second;
-            Seeded {
-                seeds: Seeds::Pair(first, second),
-                state: far_state(underflow),
-                underflow,
-                terms: 0,
-                backward: m.backward,
-            }
-        }
-        Err(refusal) => Seeded {
-            seeds: Seeds::Refused(refusal),
-            state: far_state(underflow),
-            underflow,
-            terms: 0,
-            backward: 0,
-        },
-    }
+    let m = found?;
+    Ok(Seeded {
+        seeds: Seeds::Pair(m.first, m.second),
+        state: far_state(underflow),
+        underflow,
+        terms: 0,
+        backward: m.backward,
+    })
 }
 
+#[tactic(auto, unfolding(crate::specs::ByMiller::half_seeds))]
 fn half_seeds(underflow: bool, value: Complex) -> Seeded
     ensures { result ≡ half_seeds underflow value }
 {
@@ -132,19 +122,25 @@ fn half_seeds(underflow: bool, value: Complex) -> Seeded
     }
 }
 
-pub fn other_seeds(g: Ground, scaled: bool) -> Seeded
-    ensures { result ≡ other_seeds g scaled }
-{
-    let z = g.z;
-    let root = sqrt(g.modulus);
-    let angle = z.argument();
-    let underflow = is_far(scaled, z);
-    if is_half(g.fraction) {
-        return half_seeds(underflow, coefficient(scaled, underflow, z, root, angle));
+impl Ground {
+    #[tactic(auto, unfolding(crate::specs::ByMiller::other_seeds, miller::specs::Seeds::seeds_of))]
+    pub fn other_seeds(self, scaled: bool) -> Result<Seeded, Refusal>
+        ensures { result ≡ other_seeds self scaled }
+    {
+        let z = self.z;
+        let root = sqrt(self.modulus);
+        let angle = z.argument();
+        let underflow = is_far(scaled, z);
+        if is_half(self.fraction) {
+            return Ok(half_seeds(underflow, coefficient(scaled, underflow, z, root, angle)));
+        }
+        let point = point_with(z, self.modulus, root, angle);
+        let order = order_of(self.fraction, self.square);
+        let found = search(point, order);
+        let value = coefficient(scaled, underflow, z, root, angle);
+        miller_seeds(
+            underflow,
+            seeds_at(point, order, value, self.is_alone(), found),
+        )
     }
-    let point = point_with(z, g.modulus, root, angle);
-    let order = order_of(g.fraction, g.square);
-    let found = search(point, order);
-    let value = coefficient(scaled, underflow, z, root, angle);
-    miller_seeds(underflow, seeds_at(point, order, value, is_alone(g), found))
 }

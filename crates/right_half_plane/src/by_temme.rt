@@ -1,9 +1,10 @@
 // Seeds for |z| to 2: Temme's sum, on the scale of its state, times e^z where K is asked for scaled.
 // From src/amos/right_half_plane.rs, k_right_half_plane (ZBKNU). Promised: temme_seeds of specs/ByTemme.antt.
 ghost use Rattle.std.specs.Prelude.{◌≡◌};
-ghost use Rattle.right_half_plane.specs.ByTemme.{growth_state, growth_of, grown_by, temme_pair, temme_seeds};
+ghost use Rattle.right_half_plane.specs.ByTemme.{growth_state, temme_seeds};
+ghost use Rattle.right_half_plane.specs.shapes.Growth.{growth_if, grown_if, pair_if};
 
-use crate::ground::{Ground, is_alone};
+use crate::ground::Ground;
 use crate::seeds::{Seeded, Seeds};
 use complex::number::Complex;
 use machine::constants::Machine;
@@ -12,6 +13,7 @@ use recurrence::state::{OverflowState, scale};
 use temme::seeds::Temme;
 
 // a large sinh μ over the fraction tells that the climb may overflow
+#[tactic(auto, unfolding(crate::specs::ByTemme::growth_state, machine::specs::Constants::approximation_limit))]
 fn growth_state(order: f64, shinc: Complex) -> OverflowState
     ensures { result ≡ growth_state order shinc }
 {
@@ -21,59 +23,58 @@ fn growth_state(order: f64, shinc: Complex) -> OverflowState
     OverflowState::None
 }
 
-// e^z, which scaled seeds take. It does not wait for Temme's sum, and is worked out before it; unscaled seeds ask for none.
-fn growth(scaled: bool, z: Complex) -> Complex
-    ensures { result ≡ growth_of scaled z }
+// e^z, which scaled seeds take and no others. It does not wait for Temme's sum, and is worked out before it.
+#[tactic(auto, unfolding(crate::specs::shapes::Growth::growth_if))]
+fn growth(scaled: bool, z: Complex) -> Option<Complex>
+    ensures { result ≡ growth_if scaled z }
 {
-    if scaled {
-        return z.exp();
+    if scaled { Some(z.exp()) } else { None }
+}
+
+#[tactic(auto, unfolding(crate::specs::shapes::Growth::grown_if))]
+fn grown(growth: Option<Complex>, value: Complex) -> Complex
+    ensures { result ≡ grown_if growth value }
+{
+    match growth {
+        Some(growth) => value.product(growth),
+        None => value,
     }
-    Complex { re: 1.0, im: 0.0 }
 }
 
-fn grown(scaled: bool, growth: Complex, value: Complex) -> Complex
-    ensures { result ≡ grown_by scaled growth value }
-{
-    if scaled {
-        return value.product(growth);
+impl Ground {
+    #[tactic(auto, unfolding(crate::specs::shapes::Growth::pair_if))]
+    fn temme_pair(self, growth: Option<Complex>, factor: f64, t: Temme) -> Seeds
+        ensures { result ≡ pair_if self growth factor t }
+    {
+        let first = t.first.times_real(factor);
+        let second = t.second.product(self.two_over_z.times_real(factor));
+        Seeds::Pair(grown(growth, first), grown(growth, second))
     }
-    value
-}
 
-fn temme_pair(g: Ground, scaled: bool, growth: Complex, factor: f64, t: Temme) -> Seeds
-    ensures { result ≡ temme_pair g scaled growth factor t }
-{
-    let two_over_z = g.two_over_z;
-    let low = t.first;
-    let high = t.second;
-    let first = low.times_real(factor);
-    let second = high.product(two_over_z.times_real(factor));
-    Seeds::Pair(grown(scaled, growth, first), grown(scaled, growth, second))
-}
-
-pub fn temme_seeds(g: Ground, scaled: bool) -> Seeded
-    ensures { result ≡ temme_seeds g scaled }
-{
-    let z = g.z;
-    let two_over_z = g.two_over_z;
-    let growth = growth(scaled, z);
-    let t = temme::seeds::seeds(z, g.modulus, two_over_z.ln(), g.fraction, g.square);
-    let terms = t.terms;
-    if is_alone(g) {
-        return Seeded {
-            seeds: Seeds::Finished(grown(scaled, growth, t.first)),
-            state: OverflowState::None,
+    pub fn temme_seeds(self, scaled: bool) -> Seeded
+        ensures { result ≡ temme_seeds self scaled }
+    {
+        let z = self.z;
+        let two_over_z = self.two_over_z;
+        let growth = growth(scaled, z);
+        let t = temme::seeds::seeds(z, self.modulus, two_over_z.ln(), self.fraction, self.square);
+        let terms = t.terms;
+        if self.is_alone() {
+            return Seeded {
+                seeds: Seeds::Finished(grown(growth, t.first)),
+                state: OverflowState::None,
+                underflow: false,
+                terms,
+                backward: 0,
+            };
+        }
+        let state = growth_state(self.order, t.shinc);
+        Seeded {
+            seeds: self.temme_pair(growth, scale(state), t),
+            state,
             underflow: false,
             terms,
             backward: 0,
-        };
-    }
-    let state = growth_state(g.order, t.shinc);
-    Seeded {
-        seeds: temme_pair(g, scaled, growth, scale(state), t),
-        state,
-        underflow: false,
-        terms,
-        backward: 0,
+        }
     }
 }

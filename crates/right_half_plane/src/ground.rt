@@ -40,12 +40,12 @@ pub fn prepare(order: f64, z: Complex, modulus: f64, count: u32) -> Ground
     }
 }
 
-// the one value asked for is the first seed's own
-pub fn is_alone(g: Ground) -> bool
-    ensures { result ≡ is_alone g }
-{
-    if g.nearest == 0 {
-        return g.count == 1;
+impl Ground {
+    // the one value asked for is the first seed's own
+    #[tactic(auto, unfolding(crate::specs::Ground::is_alone))]
+    pub fn is_alone(self) -> bool
+        ensures { result ≡ is_alone self }
+    {
+        self.nearest == 0 && self.count == 1
     }
-    false
 }

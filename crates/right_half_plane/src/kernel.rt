@@ -6,22 +6,20 @@ ghost use Rattle.std.specs.Float.Ieee.{le};
 ghost use Rattle.laws.proofs.Relative.{nonnegative};
 ghost use Rattle.complex.specs.Functions.{modulus_of};
 ghost use Rattle.call.specs.Limits.{largest_order};
-ghost use Rattle.right_half_plane.specs.Ground.{Sized};
-ghost use Rattle.right_half_plane.specs.shapes.Led.{MarkedFew, led_of};
-ghost use Rattle.right_half_plane.specs.Kernel.{LeadFits, rest_of, lead_cells, lead_kernel, pair_kernel, finished_kernel, kernel_of, afterwards};
+ghost use Rattle.right_half_plane.specs.Kernel.{LeadFits, rest_of, lead_kernel, pair_kernel, finished_kernel, kernel_of, afterwards};
 
+use crate::admitted::Admitted;
 use crate::ground::{Ground, prepare};
-use crate::lead::{Lead, first_lead, on_scale_lead};
-use crate::reach::{Reached, reach};
-use crate::seeds::{Seeded, Seeds, seed};
-use cells::fill;
+use crate::lead::{Lead, on_scale_lead};
+use crate::reach::Reached;
+use crate::seeds::{Seeded, Seeds};
 use complex::number::Complex;
 use recurrence::fill as climb_fill;
 use recurrence::state::Climb;
 use refusal::refusal::Refusal;
 
 // The orders set to zero, the terms of the sum, the rungs climbed, and Miller's backward steps.
-#[derive(Clone, Copy)]
+#[derive(Clone, Copy, Debug, PartialEq, Eq)]
 pub struct Counts {
     pub zeros: u32,
     pub longest_sum: u32,
@@ -29,104 +27,90 @@ pub struct Counts {
     pub backward: u32,
 }
 
-#[derive(Clone, Copy)]
-pub enum Ending {
-    Answered(Counts),
-    Refused(Refusal),
-}
-
-// The cells after the zeros: two entries, where there is room, and the entries of the climb in what remains.
-fn rest(g: Ground, lead: Lead, part: &mut [f64]) -> u32
-    requires { (length part.old % 2 ≡ 0) × (length part.old ≤ 1024) × LeadFits g lead }
-    ensures { (result ≡ (rest_of g lead (length part.old / 2)).rungs)
-        × (part.new ≡ (rest_of g lead (length part.old / 2)).cells) }
-{
-    let first = lead.first;
-    let second = lead.second;
-    let c = lead.climb;
-    let two_over_z = g.two_over_z;
-    if part.len() == 0 {
-        return c.rungs;
-    }
-    part[0] = first.re;
-    part[1] = first.im;
-    if part.len() == 2 {
-        return c.rungs;
-    }
-    part[2] = second.re;
-    part[3] = second.im;
-    let top = climb_fill::fill(two_over_z, g.order - 1.0, lead.zeros + 2, c, &mut part[4..]);
-    top.rungs
-}
-
-fn deliver(g: Ground, lead: Lead, out: &mut [f64]) -> u32
-    requires { Sized g × LeadFits g lead × (length out.old ≡ g.count * 2) }
-    ensures { (result ≡ (rest_of g lead (g.count - lead.zeros)).rungs) × (out.new ≡ lead_cells g lead) }
-{
-    let at = (lead.zeros as usize) * 2;
-    fill::fill(&mut out[0..at], 0.0);
-    rest(g, lead, &mut out[at..])
-}
-
-fn answered(g: Ground, s: Seeded, lead: Lead, out: &mut [f64]) -> Ending
-    requires { Sized g × LeadFits g lead × (length out.old ≡ g.count * 2) }
-    ensures { (result ≡ (lead_kernel g s lead).ending) × (out.new ≡ (lead_kernel g s lead).cells) }
-{
-    let rungs = deliver(g, lead, out);
-    Ending::Answered(Counts {
-        zeros: lead.zeros,
-        longest_sum: s.terms,
-        rungs,
-        backward: s.backward,
-    })
-}
-
-// The lead of where the climb stands. It is one record for all ways, so that the compiler keeps it in registers: a refused climb has none, and that of
-// its start stands for it, unread.
-fn led(g: Ground, start: Climb, reached: Reached) -> Lead
-    requires { Sized g × MarkedFew reached }
-    ensures { result ≡ led_of g start reached }
-{
-    match reached {
-        Reached::OnScale(c) => on_scale_lead(c),
-        Reached::Marked(c) => first_lead(g, c),
-        Reached::Refused(_) => on_scale_lead(start),
+impl Ground {
+    // The cells after the zeros: two entries, where there is room, and the entries of the climb in what remains.
+    fn rest(self, lead: Lead, part: &mut [f64]) -> u32
+        requires { (length part.old % 2 ≡ 0) × (length part.old ≤ 1024) × LeadFits self lead }
+        ensures { (result ≡ (rest_of self lead (length part.old / 2)).rungs)
+            × (part.new ≡ (rest_of self lead (length part.old / 2)).cells) }
+    {
+        let c = lead.climb;
+        if part.len() == 0 {
+            return c.rungs;
+        }
+        part[0] = lead.first.re;
+        part[1] = lead.first.im;
+        if part.len() == 2 {
+            return c.rungs;
+        }
+        part[2] = lead.second.re;
+        part[3] = lead.second.im;
+        let top = climb_fill::fill(
+            self.two_over_z,
+            self.order - 1.0,
+            lead.zeros + 2,
+            c,
+            &mut part[4..],
+        );
+        top.rungs
     }
 }
 
-fn from_pair(g: Ground, s: Seeded, first: Complex, second: Complex, out: &mut [f64]) -> Ending
-    requires { Sized g × (length out.old ≡ g.count * 2) }
-    ensures { (result ≡ (pair_kernel g s first second).ending)
-        × (out.new ≡ afterwards (pair_kernel g s first second) out.old) }
-{
-    let state = s.state;
-    let start = Climb {
-        older: first,
-        newer: second,
-        state,
-        rungs: 0,
-    };
-    let reached = reach(g, s.underflow, start);
-    let lead = led(g, start, reached);
-    match reached {
-        Reached::OnScale(_) => answered(g, s, lead, out),
-        Reached::Marked(_) => answered(g, s, lead, out),
-        Reached::Refused(refusal) => Ending::Refused(refusal),
+impl Admitted {
+    // the zeros, and then the rest
+    fn answered(self, s: Seeded, lead: Lead, out: &mut [f64]) -> Counts
+        requires { LeadFits self.prepared lead × (length out.old ≡ self.prepared.count * 2) }
+        ensures { (Ok result ≡ (lead_kernel self.prepared s lead).ending) × (out.new ≡ (lead_kernel self.prepared s lead).cells) }
+    {
+        let at = (lead.zeros as usize) * 2;
+        out[0..at].fill(0.0);
+        let rungs = self.prepared.rest(lead, &mut out[at..]);
+        Counts {
+            zeros: lead.zeros,
+            longest_sum: s.terms,
+            rungs,
+            backward: s.backward,
+        }
+    }
+
+    fn from_pair(
+        self,
+        s: Seeded,
+        first: Complex,
+        second: Complex,
+        out: &mut [f64],
+    ) -> Result<Counts, Refusal>
+        requires { length out.old ≡ self.prepared.count * 2 }
+        ensures { (result ≡ (pair_kernel self.prepared s first second).ending)
+            × (out.new ≡ afterwards (pair_kernel self.prepared s first second) out.old) }
+    {
+        let start = Climb {
+            older: first,
+            newer: second,
+            state: s.state,
+            rungs: 0,
+        };
+        let reached = self.reach(s.underflow, start)?;
+        match reached {
+            Reached::OnScale(c) => Ok(self.answered(s, on_scale_lead(c), out)),
+            Reached::Marked(c) => Ok(self.answered(s, self.first_lead(c), out)),
+        }
     }
 }
 
-fn finished(s: Seeded, value: Complex, out: &mut [f64]) -> Ending
+#[tactic(auto, unfolding(crate::specs::Kernel::finished_kernel))]
+fn finished(s: Seeded, value: Complex, out: &mut [f64]) -> Counts
     requires { length out.old ≡ 2 }
-    ensures { (result ≡ (finished_kernel s value).ending) × (out.new ≡ (finished_kernel s value).cells) }
+    ensures { (Ok result ≡ (finished_kernel s value).ending) × (out.new ≡ (finished_kernel s value).cells) }
 {
     out[0] = value.re;
     out[1] = value.im;
-    Ending::Answered(Counts {
+    Counts {
         zeros: 0,
         longest_sum: s.terms,
         rungs: 0,
         backward: s.backward,
-    })
+    }
 }
 
 pub fn k_right_half_plane(
@@ -135,7 +119,7 @@ pub fn k_right_half_plane(
     z: Complex,
     modulus: f64,
     out: &mut [f64],
-) -> Ending
+) -> Result<Counts, Refusal>
     requires { (0 < length out.old)
         × (length out.old % 2 ≡ 0)
         × (length out.old ≤ 1024)
@@ -145,12 +129,12 @@ pub fn k_right_half_plane(
     ensures { (result ≡ (kernel_of scaled order z modulus (length out.old / 2)).ending)
         × (out.new ≡ afterwards (kernel_of scaled order z modulus (length out.old / 2)) out.old) }
 {
-    let g = prepare(order, z, modulus, (out.len() / 2) as u32);
-    let s = seed(g, scaled);
-    let seeds = s.seeds;
-    match seeds {
-        Seeds::Finished(value) => finished(s, value, out),
-        Seeds::Pair(first, second) => from_pair(g, s, first, second, out),
-        Seeds::Refused(refusal) => Ending::Refused(refusal),
+    let call = Admitted {
+        prepared: prepare(order, z, modulus, (out.len() / 2) as u32),
+    };
+    let s = call.prepared.seed(scaled)?;
+    match s.seeds {
+        Seeds::Finished(value) => Ok(finished(s, value, out)),
+        Seeds::Pair(first, second) => call.from_pair(s, first, second, out),
     }
 }

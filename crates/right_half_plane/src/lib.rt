@@ -2,6 +2,7 @@
 // From src/amos/right_half_plane.rs, k_right_half_plane (ZBKNU); the words are those of docs/SCOPE.md, K.
 #![tactic(auto)]
 
+pub mod admitted;
 pub mod by_miller;
 pub mod by_temme;
 pub mod ground;

@@ -1,12 +1,11 @@
 // From the seeds to the first order wanted, on scale or with underflow still marked. From src/amos/right_half_plane.rs, k_right_half_plane (ZBKNU).
 // Promised: reach_of of specs/Reach.antt. Each rung raises the call's own number.
 ghost use Rattle.std.specs.Prelude.{◌≡◌, ◌≤◌};
-ghost use Rattle.right_half_plane.specs.Ground.{Sized};
-ghost use Rattle.right_half_plane.specs.Reach.{Few, steps_of, wanted_of, resting_of, climbed_of, resumed_of, begun_of, reach_of};
+ghost use Rattle.right_half_plane.specs.Reach.{steps_of, wanted_of, resting_of, climbed_of, begun_of, reach_of};
 
+use crate::admitted::Admitted;
 use crate::ground::Ground;
-use crate::recover::{Recovered, Resumed, recover};
-use complex::number::Complex;
+use crate::recover::{Resumed, recover};
 use recurrence::climb::climb;
 use recurrence::state::Climb;
 use refusal::refusal::Refusal;
@@ -16,93 +15,82 @@ use refusal::refusal::Refusal;
 pub enum Reached {
     OnScale(Climb),
     Marked(Climb),
-    Refused(Refusal),
 }
 
-// how many rungs lie between the seeds and the orders wanted
-fn steps(g: Ground) -> u32
-    ensures { result ≡ steps_of g }
-{
-    if g.count == 1 {
-        if g.nearest == 0 {
-            return 0;
+impl Ground {
+    // how many rungs lie between the seeds and the orders wanted
+    #[tactic(auto, unfolding(crate::specs::Reach::steps_of))]
+    fn steps(self) -> u32
+        ensures { result ≡ steps_of self }
+    {
+        if self.count == 1 {
+            return self.nearest.saturating_sub(1);
         }
-        return g.nearest - 1;
+        self.nearest
     }
-    g.nearest
-}
 
-// One value alone is the newer of the two, unless it is the first seed.
-fn wanted(g: Ground, c: Climb) -> Climb
-    ensures { result ≡ wanted_of g c }
-{
-    let newer = c.newer;
-    let state = c.state;
-    if g.count == 1 {
-        if g.nearest > 0 {
+    // One value alone is the newer of the two, unless it is the first seed.
+    #[tactic(auto, unfolding(crate::specs::Reach::wanted_of))]
+    fn wanted(self, c: Climb) -> Climb
+        ensures { result ≡ wanted_of self c }
+    {
+        if self.count == 1 && self.nearest > 0 {
             return Climb {
-                older: newer,
-                newer,
-                state,
-                rungs: c.rungs,
+                older: c.newer,
+                ..c
             };
         }
+        c
     }
-    c
-}
 
-fn resting(g: Ground, underflow: bool, c: Climb) -> Reached
-    ensures { result ≡ resting_of g underflow c }
-{
-    if underflow {
-        return Reached::Marked(wanted(g, c));
-    }
-    Reached::OnScale(wanted(g, c))
-}
-
-fn climbed(g: Ground, from: u32, c: Climb) -> Reached
-    requires { Sized g × (c.rungs ≤ 1000) }
-    ensures { result ≡ climbed_of g from c }
-{
-    let two_over_z = g.two_over_z;
-    let top = climb(two_over_z, g.fraction - 1.0, from, steps(g) + 2, c);
-    Reached::OnScale(wanted(g, top))
-}
-
-fn resumed(g: Ground, found: Recovered) -> Reached
-    requires { Sized g × Few found }
-    ensures { result ≡ resumed_of g found }
-{
-    match found {
-        Recovered::Neighbours(n) => climbed(g, n.next_offset, n.climb),
-        Recovered::Refused(refusal) => Reached::Refused(refusal),
+    // with no rung to climb
+    #[tactic(auto, unfolding(crate::specs::Reach::resting_of))]
+    fn resting(self, underflow: bool, c: Climb) -> Reached
+        ensures { result ≡ resting_of self underflow c }
+    {
+        let c = self.wanted(c);
+        if underflow {
+            return Reached::Marked(c);
+        }
+        Reached::OnScale(c)
     }
 }
 
-// where the plain climb begins: at the seeds, or where the climb out of underflow leaves off
-fn begun(g: Ground, underflow: bool, c: Climb) -> Recovered
-    requires { Sized g }
-    ensures { result ≡ begun_of g underflow c }
-{
-    let z = g.z;
-    let two_over_z = g.two_over_z;
-    let first = c.older;
-    let second = c.newer;
-    if underflow {
-        return recover(g.fraction, two_over_z, z, steps(g), first, second);
+impl Admitted {
+    // where the plain climb begins: at the seeds, or where the climb out of underflow leaves off
+    #[tactic(auto, unfolding(crate::specs::Reach::begun_of))]
+    fn begun(self, underflow: bool, c: Climb) -> Result<Resumed, Refusal>
+        ensures { result ≡ begun_of self.prepared underflow c }
+    {
+        let g = self.prepared;
+        if underflow {
+            return recover(g.fraction, g.two_over_z, g.z, g.steps(), c.older, c.newer);
+        }
+        Ok(Resumed {
+            climb: c,
+            next_offset: 2,
+        })
     }
-    Recovered::Neighbours(Resumed {
-        climb: c,
-        next_offset: 2,
-    })
-}
 
-pub fn reach(g: Ground, underflow: bool, c: Climb) -> Reached
-    requires { Sized g × (c.rungs ≡ 0) }
-    ensures { result ≡ reach_of g underflow c }
-{
-    if steps(g) == 0 {
-        return resting(g, underflow, c);
+    #[tactic(auto, unfolding(crate::specs::Reach::climbed_of))]
+    fn climbed(self, from: u32, c: Climb) -> Reached
+        requires { c.rungs ≤ 1000 }
+        ensures { result ≡ climbed_of self.prepared from c }
+    {
+        let g = self.prepared;
+        let top = climb(g.two_over_z, g.fraction - 1.0, from, g.steps() + 2, c);
+        Reached::OnScale(g.wanted(top))
     }
-    resumed(g, begun(g, underflow, c))
+
+    #[tactic(auto, unfolding(crate::specs::Reach::reach_of, crate::specs::Reach::resumed_of))]
+    pub fn reach(self, underflow: bool, c: Climb) -> Result<Reached, Refusal>
+        requires { c.rungs ≡ 0 }
+        ensures { result ≡ reach_of self.prepared underflow c }
+    {
+        if self.prepared.steps() == 0 {
+            return Ok(self.prepared.resting(underflow, c));
+        }
+        let from = self.begun(underflow, c)?;
+        Ok(self.climbed(from.next_offset, from.climb))
+    }
 }

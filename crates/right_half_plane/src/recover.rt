@@ -3,7 +3,7 @@
 // specs/Recover.antt; refusal 7 where the offsets run out first, or where one of the two is zero in both parts: there the Rust hands on values
 // that it never found.
 ghost use Rattle.std.specs.Prelude.{◌≡◌, ◌≤◌};
-ghost use Rattle.right_half_plane.specs.Recover.{is_zero_pair, neighbours_of, settled_of, recover_of};
+ghost use Rattle.right_half_plane.specs.Recover.{is_zero_pair, settled_of, recover_of};
 
 use complex::number::Complex;
 use recurrence::search::{Rule, Search, is_found, search_at, search_from};
@@ -18,37 +18,25 @@ pub struct Resumed {
     pub next_offset: u32,
 }
 
-#[derive(Clone, Copy)]
-pub enum Recovered {
-    Neighbours(Resumed),
-    Refused(Refusal),
-}
-
+#[tactic(auto, unfolding(crate::specs::Recover::is_zero_pair))]
 fn is_zero(w: Complex) -> bool
     ensures { result ≡ is_zero_pair w }
 {
-    if w.re == 0.0 {
-        return w.im == 0.0;
-    }
-    false
+    w.re == 0.0 && w.im == 0.0
 }
 
 // What was found is the pair, unless a zero is among it.
-fn neighbours(s: Search) -> Recovered
+#[tactic(auto, unfolding(crate::specs::Recover::settled_of, crate::specs::Recover::neighbours_of))]
+fn settled(s: Search) -> Result<Resumed, Refusal>
     requires { s.rungs ≤ 1000 }
-    ensures { result ≡ neighbours_of s }
+    ensures { result ≡ settled_of s }
 {
-    let before = s.before;
-    let latest = s.latest;
-    let older = before.value;
-    let newer = latest.value;
-    if is_zero(older) {
-        return Recovered::Refused(Refusal::Climb);
+    let older = s.before.value;
+    let newer = s.latest.value;
+    if !is_found(s) || is_zero(older) || is_zero(newer) {
+        return Err(Refusal::Climb);
     }
-    if is_zero(newer) {
-        return Recovered::Refused(Refusal::Climb);
-    }
-    Recovered::Neighbours(Resumed {
+    Ok(Resumed {
         climb: Climb {
             older,
             newer,
@@ -59,16 +47,7 @@ fn neighbours(s: Search) -> Recovered
     })
 }
 
-fn settled(s: Search) -> Recovered
-    requires { s.rungs ≤ 1000 }
-    ensures { result ≡ settled_of s }
-{
-    if is_found(s) {
-        return neighbours(s);
-    }
-    Recovered::Refused(Refusal::Climb)
-}
-
+#[tactic(auto, unfolding(crate::specs::Recover::recover_of))]
 pub fn recover(
     fraction: f64,
     two_over_z: Complex,
@@ -76,7 +55,7 @@ pub fn recover(
     steps: u32,
     first: Complex,
     second: Complex,
-) -> Recovered
+) -> Result<Resumed, Refusal>
     requires { steps ≤ 1000 }
     ensures { result ≡ recover_of fraction two_over_z z steps first second }
 {

@@ -4,22 +4,20 @@ ghost use Rattle.std.specs.Prelude.{◌≡◌};
 ghost use Rattle.std.specs.Float.Ieee.{le};
 ghost use Rattle.machine.specs.Small.{two};
 ghost use Rattle.complex.specs.Functions.{modulus_of};
-ghost use Rattle.right_half_plane.specs.Seeds.{is_near, seed_of};
+ghost use Rattle.right_half_plane.specs.Seeds.{seed_of};
 
-use crate::by_miller::{is_half, other_seeds};
-use crate::by_temme::temme_seeds;
+use crate::by_miller::is_half;
 use crate::ground::Ground;
 use complex::number::Complex;
 use machine::magnitude::magnitude;
 use recurrence::state::OverflowState;
 use refusal::refusal::Refusal;
 
-// One finished value, a pair of neighbouring seeds, or a refusal.
+// One finished value, or a pair of neighbouring seeds.
 #[derive(Clone, Copy)]
 pub enum Seeds {
     Finished(Complex),
     Pair(Complex, Complex),
-    Refused(Refusal),
 }
 
 // Beside them the state of their scale, whether they stand without e^-z, the terms of Temme's sum and Miller's backward steps.
@@ -39,38 +37,25 @@ fn within_two(z: Complex, modulus: f64) -> bool
 {
     let re = magnitude(z.re);
     let im = magnitude(z.im);
-    if re <= 1.40625 {
-        if im <= 1.40625 {
-            return true;
-        }
+    if re <= 1.40625 && im <= 1.40625 {
+        return true;
     }
-    if re > 2.25 {
-        return false;
-    }
-    if im > 2.25 {
+    if re > 2.25 || im > 2.25 {
         return false;
     }
     modulus <= 2.0
 }
 
-// Temme's sum is for |z| to 2, at a fraction other than ±½.
-fn is_near(g: Ground) -> bool
-    requires { g.modulus ≡ modulus_of g.z }
-    ensures { result ≡ is_near g }
-{
-    if is_half(g.fraction) {
-        return false;
+impl Ground {
+    // Temme's sum is for |z| to 2, at a fraction other than ±½.
+    #[tactic(auto, unfolding(crate::specs::Seeds::seed_of, crate::specs::Seeds::is_near))]
+    pub fn seed(self, scaled: bool) -> Result<Seeded, Refusal>
+        requires { self.modulus ≡ modulus_of self.z }
+        ensures { result ≡ seed_of self scaled }
+    {
+        if !is_half(self.fraction) && within_two(self.z, self.modulus) {
+            return Ok(self.temme_seeds(scaled));
+        }
+        self.other_seeds(scaled)
     }
-    let z = g.z;
-    within_two(z, g.modulus)
-}
-
-pub fn seed(g: Ground, scaled: bool) -> Seeded
-    requires { g.modulus ≡ modulus_of g.z }
-    ensures { result ≡ seed_of g scaled }
-{
-    if is_near(g) {
-        return temme_seeds(g, scaled);
-    }
-    other_seeds(g, scaled)
 }

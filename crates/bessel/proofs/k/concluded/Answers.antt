@@ -13,20 +13,20 @@ use Rattle.bessel.proofs.k.concluded.Goals as goal
 pub signed-requires : goal.signed-requires
 signed-requires c =
     let o = c in
-    let few = subst Fewer o.in-Answered.is o.requires in
+    let few = subst Fewer o.in-Ok.is o.requires in
     omega (arith, few)
 
-pub returns-in-Answered : goal.returns-in-Answered
+pub returns-in-Ok : goal.returns-in-Ok
 unfolding concluded_of kernel_steps answered_of
-returns-in-Answered c =
+returns-in-Ok c =
     let j = c in
     let a = j in
     let s = a in
     let o = s in
-    let n = o.in-Answered.c in
+    let n = o.in-Ok.c in
     let e = judged-counts _ n _ _ _ s.signed.ensures (ap (λ (k : ℤ). answered_of k n.longest_sum n.rungs n.backward) (to_z-of_z {w = w32} (record { sfits = s.signed.type_inv }))) in
-    rw o.in-Answered.is (j.judge.ensures.0 ∙ ap (λ (o : Outcome). o.answer) e, j.judge.ensures.1 ∙ ap (λ (o : Outcome). o.cells) e)
+    rw o.in-Ok.is (j.judge.ensures.0 ∙ ap (λ (o : Outcome). o.answer) e, j.judge.ensures.1 ∙ ap (λ (o : Outcome). o.cells) e)
 
-pub returns-in-Refused : goal.returns-in-Refused
+pub returns-in-Err : goal.returns-in-Err
 unfolding concluded_of kernel_steps
-returns-in-Refused c = rw c.in-Refused.is c.refuse.ensures
+returns-in-Err c = rw c.in-Err.is c.refuse.ensures

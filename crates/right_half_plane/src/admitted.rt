@@ -1,0 +1,10 @@
+// The ground of an admitted call: one order at least and 512 at most, and an order of at most 1,000. Who makes one shows that; who takes one knows it.
+ghost use Rattle.right_half_plane.specs.Ground.{Sized};
+
+use crate::ground::Ground;
+
+#[derive(Clone, Copy)]
+pub struct Admitted {
+    pub prepared: Ground,
+    pub ghost sized: { Sized prepared },
+}

@@ -1,7 +1,7 @@
 -- The climb that fills: one rung more, two fills in a row; its climb is the plain one, and its cells are two a rung. Part of it, in the buffer that it
 -- fills, as a state keeps it and off its scale: its start, one rung more, two parts in a row, the whole. Assumes nothing.
 use mathlib.Core.Path.{◌≡◌, refl, sym, ap, ◌∙◌, subst}
-use mathlib.Core.Bool.{Bool, true, false, true≢false, not}
+use mathlib.Core.Bool.{false}
 use mathlib.Core.List.{List, [], ◌∷◌, ◌++◌, append_assoc, append-nil}
 use Prim.Native.Nat.{ℕ, zero, suc, ◌+◌, ◌-◌, ◌*◌, ◌/◌, ◌≤◌, ◌<◌}
 use native.Mathlib.Nat.{add-zero, add-suc, add_assoc}
@@ -20,17 +20,15 @@ use Rattle.recurrence.specs.State.{reciprocal_of, limit_of}
 use Rattle.recurrence.specs.Rung.{factor_of, next_of, rung_of}
 use Rattle.recurrence.specs.Climb.{never, climb_from}
 use Rattle.recurrence.specs.Fill.{Filled, fill_step, fill_from}
-use Rattle.recurrence.specs.shapes.Course.{Stays}
-use Rattle.recurrence.specs.shapes.Stretch.{off_scale, PartPut, PartHeld, PartFilled, put_if, Written}
+use Rattle.recurrence.specs.shapes.Stretch.{off_scale, PartPut, PartHeld, PartFilled, Written}
 use Rattle.recurrence.specs.declared.state.OverflowState.{OverflowState}
 use Rattle.recurrence.specs.declared.state.Climb.{Climb}
 use Rattle.recurrence.specs.declared.state.Rung.{Rung}
-use Rattle.recurrence.specs.declared.held.Held.{Held}
+use Rattle.std.specs.declared.option.Option.TheVariants as option
 use Rattle.recurrence.specs.declared.course.Course.{Course}
-use Rattle.recurrence.specs.declared.course.Turn.{Turn}
 use Rattle.recurrence.proofs.ClimbFacts.{plain-last, climb-out, climb-last, climb-again, rung-counted}
 use Rattle.recurrence.proofs.OffScaleFacts.{Spreads, scale-spreads, scale-length, scale-pair}
-use Rattle.recurrence.proofs.StretchFacts.{held, held-value, held-rung, partway_start, partway-rung, partway-again}
+use Rattle.recurrence.proofs.StretchFacts.{held-value, held-rung, partway_start, partway-rung, partway-again}
 
 -- a seam, and another from there on
 seam-again : {A : Type 0} {d p out out' : List A} {n m : ℕ} (q : List A) → n ≤ m → Seam d p n out → Seam out (take n out ++ q) m out' → Seam d (p ++ q) m out'
@@ -272,57 +270,48 @@ module _ (g : Course) (start : Climb) (from place : ℕ) (before : List Float) w
   pub turn-start : place + 8 ≤ length before → Turning from start place before
   turn-start h = writing_start g.two_over_z g.base_order (scale-spreads start.state) from (from + 4) start place before (omega arith)
 
-  pub turn-rung : {i at : ℕ} {c : Climb} {out : List Float} (j n at' : ℕ) (out' : List Float) (a : Held) → j ≡ i + 1 → n ≡ c.rungs + 1 → at' ≡ at + 2 → i < from + 4 → at + 1 < length before
-      → c.state ≡ start.state → g.most ≡ limit_of start.state → not a.kept ≡ false → Written g i c.older c.newer a at out out' → Turning i c at out
-      → Turning j (record { older = c.newer; newer = a.value; state = c.state; rungs = n }) at' out'
-  turn-rung {i} {at} {c} {out} j n at' out' a u l v h r q b k w =
+  pub turn-rung : {i at : ℕ} {c : Climb} {out : List Float} (j n at' : ℕ) (out' : List Float) (w : Complex) → j ≡ i + 1 → n ≡ c.rungs + 1 → at' ≡ at + 2 → i < from + 4 → at + 1 < length before
+      → c.state ≡ start.state → g.most ≡ limit_of start.state → Written g i c.older c.newer (option.Some w) at out out' → Turning i c at out
+      → Turning j (record { older = c.newer; newer = w; state = c.state; rungs = n }) at' out'
+  turn-rung {i} {at} {c} {out} j n at' out' w u l v h r q b p t =
       let most = b ∙ ap limit_of (sym q) in
       let factor = factor_of g.two_over_z g.base_order i in
-      let is = (held-value g.most (next_of factor c.older c.newer) a w.held k).0 in
+      let is = (held-value g.most (next_of factor c.older c.newer) w p.held).0 in
       writing-rung g.two_over_z g.base_order (scale-spreads start.state) j at' out'
-      (record { climb = record { older = c.newer; newer = a.value; state = c.state; rungs = n }; entry = times_real a.value (reciprocal_of c.state); moved = false }) a.value u v h r
-      (held-rung g.two_over_z g.base_order i n c a l most w.held k)
-      (ap (λ (s : OverflowState). off_scale s (a.value.re ∷ a.value.im ∷ [])) (sym q) ∙ scale-pair c.state factor c.older c.newer a.value is)
-      (w.put ∙ ap (λ (t : Bool). put_if t a.value at out) (held a.kept k))
+      (record { climb = record { older = c.newer; newer = w; state = c.state; rungs = n }; entry = times_real w (reciprocal_of c.state); moved = false }) w u v h r
+      (held-rung g.two_over_z g.base_order i n c w l most p.held)
+      (ap (λ (s : OverflowState). off_scale s (w.re ∷ w.im ∷ [])) (sym q) ∙ scale-pair c.state factor c.older c.newer w is)
+      p.put
+      t
 
-  pub turn-stop : {i at : ℕ} {c : Climb} {out : List Float} (out' : List Float) (a : Held) → not a.kept ≡ true → Written g i c.older c.newer a at out out' → Turning i c at out → Turning i c at out'
-  turn-stop {i} {at} {c} {out} out' a k w s = subst (Turning i c at) (sym (w.put ∙ ap (λ (t : Bool). put_if t a.value at out) (left a.kept k))) s
-    where
-      left : (t : Bool) → not t ≡ true → t ≡ false
-      left true e = absurd (true≢false (sym e))
-      left false e = refl
+  pub turn-stop : {i at : ℕ} {c : Climb} {older newer : Complex} {out : List Float} (out' : List Float) → Written g i older newer option.None at out out' → Turning i c at out → Turning i c at out'
+  turn-stop {i} {at} {c} {older} {newer} {out} out' p s = subst (Turning i c at) (sym p.put) s
 
   -- one rung of it, two, three, four
   module _ (room : place + 8 ≤ length before) (b : g.most ≡ limit_of start.state) where
-    pub turn_one : {o₁ : List Float} (a₁ : Held) → not a₁.kept ≡ false → Written g from start.older start.newer a₁ place before o₁
-        → Turning (from + 1) (record { older = start.newer; newer = a₁.value; state = start.state; rungs = start.rungs + 1 }) (place + 2) o₁
-    turn_one {o₁} a₁ k₁ w₁ = turn-rung (from + 1) (start.rungs + 1) (place + 2) o₁ a₁ refl refl refl (omega arith) (omega arith) refl b k₁ w₁ (turn-start room)
+    pub turn_one : {o₁ : List Float} {w₁ : Complex} → Written g from start.older start.newer (option.Some w₁) place before o₁
+        → Turning (from + 1) (record { older = start.newer; newer = w₁; state = start.state; rungs = start.rungs + 1 }) (place + 2) o₁
+    turn_one {o₁} {w₁} p₁ = turn-rung (from + 1) (start.rungs + 1) (place + 2) o₁ w₁ refl refl refl (omega arith) (omega arith) refl b p₁ (turn-start room)
 
-    pub turn_two : {o₁ o₂ : List Float} (a₁ a₂ : Held) → not a₁.kept ≡ false → Written g from start.older start.newer a₁ place before o₁
-        → not a₂.kept ≡ false → Written g (from + 1) start.newer a₁.value a₂ (place + 2) o₁ o₂
-        → Turning (from + 2) (record { older = a₁.value; newer = a₂.value; state = start.state; rungs = start.rungs + 2 }) (place + 4) o₂
-    turn_two {o₁} {o₂} a₁ a₂ k₁ w₁ k₂ w₂ = turn-rung (from + 2) (start.rungs + 2) (place + 4) o₂ a₂ (omega arith) (omega arith) (omega arith) (omega arith) (omega arith) refl b k₂ w₂ (turn_one a₁ k₁ w₁)
+    pub turn_two : {o₁ o₂ : List Float} {w₁ w₂ : Complex} → Written g from start.older start.newer (option.Some w₁) place before o₁
+        → Written g (from + 1) start.newer w₁ (option.Some w₂) (place + 2) o₁ o₂
+        → Turning (from + 2) (record { older = w₁; newer = w₂; state = start.state; rungs = start.rungs + 2 }) (place + 4) o₂
+    turn_two {o₁} {o₂} {w₁} {w₂} p₁ p₂ = turn-rung (from + 2) (start.rungs + 2) (place + 4) o₂ w₂ (omega arith) (omega arith) (omega arith) (omega arith) (omega arith) refl b p₂ (turn_one p₁)
 
-    pub turn_three : {o₁ o₂ o₃ : List Float} (a₁ a₂ a₃ : Held) → not a₁.kept ≡ false → Written g from start.older start.newer a₁ place before o₁
-        → not a₂.kept ≡ false → Written g (from + 1) start.newer a₁.value a₂ (place + 2) o₁ o₂
-        → not a₃.kept ≡ false → Written g (from + 2) a₁.value a₂.value a₃ (place + 4) o₂ o₃
-        → Turning (from + 3) (record { older = a₂.value; newer = a₃.value; state = start.state; rungs = start.rungs + 3 }) (place + 6) o₃
-    turn_three {o₁} {o₂} {o₃} a₁ a₂ a₃ k₁ w₁ k₂ w₂ k₃ w₃ =
-        turn-rung (from + 3) (start.rungs + 3) (place + 6) o₃ a₃ (omega arith) (omega arith) (omega arith) (omega arith) (omega arith) refl b k₃ w₃ (turn_two a₁ a₂ k₁ w₁ k₂ w₂)
+    pub turn_three : {o₁ o₂ o₃ : List Float} {w₁ w₂ w₃ : Complex} → Written g from start.older start.newer (option.Some w₁) place before o₁
+        → Written g (from + 1) start.newer w₁ (option.Some w₂) (place + 2) o₁ o₂
+        → Written g (from + 2) w₁ w₂ (option.Some w₃) (place + 4) o₂ o₃
+        → Turning (from + 3) (record { older = w₂; newer = w₃; state = start.state; rungs = start.rungs + 3 }) (place + 6) o₃
+    turn_three {o₁} {o₂} {o₃} {w₁} {w₂} {w₃} p₁ p₂ p₃ = turn-rung (from + 3) (start.rungs + 3) (place + 6) o₃ w₃ (omega arith) (omega arith) (omega arith) (omega arith) (omega arith) refl b p₃ (turn_two p₁ p₂)
 
-    pub turn-four : {o₁ o₂ o₃ o₄ : List Float} (a₁ a₂ a₃ a₄ : Held) → not a₁.kept ≡ false → Written g from start.older start.newer a₁ place before o₁
-        → not a₂.kept ≡ false → Written g (from + 1) start.newer a₁.value a₂ (place + 2) o₁ o₂
-        → not a₃.kept ≡ false → Written g (from + 2) a₁.value a₂.value a₃ (place + 4) o₂ o₃
-        → not a₄.kept ≡ false → Written g (from + 3) a₂.value a₃.value a₄ (place + 6) o₃ o₄
-        → Turning (from + 4) (record { older = a₃.value; newer = a₄.value; state = start.state; rungs = start.rungs + 4 }) (place + 8) o₄
-    turn-four {o₁} {o₂} {o₃} {o₄} a₁ a₂ a₃ a₄ k₁ w₁ k₂ w₂ k₃ w₃ k₄ w₄ =
-        turn-rung (from + 4) (start.rungs + 4) (place + 8) o₄ a₄ (omega arith) (omega arith) (omega arith) (omega arith) (omega arith) refl b k₄ w₄ (turn_three a₁ a₂ a₃ k₁ w₁ k₂ w₂ k₃ w₃)
+    pub turn-four : {o₁ o₂ o₃ o₄ : List Float} {w₁ w₂ w₃ w₄ : Complex} → Written g from start.older start.newer (option.Some w₁) place before o₁
+        → Written g (from + 1) start.newer w₁ (option.Some w₂) (place + 2) o₁ o₂
+        → Written g (from + 2) w₁ w₂ (option.Some w₃) (place + 4) o₂ o₃
+        → Written g (from + 3) w₂ w₃ (option.Some w₄) (place + 6) o₃ o₄
+        → Turning (from + 4) (record { older = w₃; newer = w₄; state = start.state; rungs = start.rungs + 4 }) (place + 8) o₄
+    turn-four {o₁} {o₂} {o₃} {o₄} {w₁} {w₂} {w₃} {w₄} p₁ p₂ p₃ p₄ =
+        turn-rung (from + 4) (start.rungs + 4) (place + 8) o₄ w₄ (omega arith) (omega arith) (omega arith) (omega arith) (omega arith) refl b p₄ (turn_three p₁ p₂ p₃)
 
   -- what a turn gives back
   pub turn-length : {i at : ℕ} {c : Climb} {out : List Float} → Turning i c at out → length out ≡ length before
   turn-length s = s.filled.cells.same
-
-  pub turn-ends : {i at : ℕ} {c : Climb} {out : List Float} {whole : Bool} (t : Turn) → t ≡ record { climb = c; whole = whole } → c.state ≡ start.state → (whole ≡ true → c.rungs ≡ start.rungs + 4) → Turning i c at out
-      → PartHeld g.two_over_z g.base_order from (from + 4) start place before t.climb out × Stays start t
-  turn-ends {i} {at} {c} {out} {whole} t e p q s =
-      subst (λ (r : Turn). PartHeld g.two_over_z g.base_order from (from + 4) start place before r.climb out × Stays start r) (sym e) (s.filled, record { state = p; four = q })

@@ -8,12 +8,11 @@ use borrow.Author.Tests.{ltb-true, ltb-false}
 use lib.Dec.{ltb}
 use lib.Ieee.{Float}
 use Rattle.complex.specs.declared.number.Complex.{Complex}
-use Rattle.recurrence.specs.Trial.{first_trial}
+use Rattle.recurrence.specs.Trial.{Trial, kept, value_of, first_trial}
 use Rattle.recurrence.specs.Search.{is_found, search_from}
 use Rattle.recurrence.specs.First.{start_of, ended_of, settled_of, first_orders}
-use Rattle.recurrence.specs.declared.trial.Trial.{Trial}
 use Rattle.recurrence.specs.declared.search.Search.{Search}
-use Rattle.recurrence.specs.declared.search.Rule.TheVariants as rule
+use Rattle.recurrence.specs.Rule as rule
 use Rattle.recurrence.specs.declared.first.FirstOrders.{FirstOrders}
 use Rattle.recurrence.proofs.SearchFacts.{search-ends}
 
@@ -23,7 +22,7 @@ Counted n r = ((r.zeros + 2 ≤ n) × (r.rungs ≡ r.zeros)) ⊎ ((n ≤ r.zeros
 
 ended-counted : (n : ℕ) (t : Trial) (rungs : ℕ) → rungs ≡ n - 2 → Counted n (ended_of n t rungs)
 unfolding ended_of
-ended-counted n t rungs e = inr (either t.kept)
+ended-counted n t rungs e = inr (either (kept t))
   where
     either : (b : Bool) → (n ≤ cond b (n - 1) n + 1) × (cond b (n - 1) n ≤ n) × (rungs ≡ n - 2)
     either true = (omega arith, omega arith, e)
@@ -38,7 +37,7 @@ settled-counted n s h l e = either (is_found s) refl
     ends f (inr k) = omega arith
 
     either : (b : Bool) → is_found s ≡ b
-        → Counted n (cond b (record { zeros = s.rungs; first = s.before.value; second = s.latest.value; rungs = s.rungs }) (ended_of n s.latest s.rungs))
+        → Counted n (cond b (record { zeros = s.rungs; first = value_of s.before; second = value_of s.latest; rungs = s.rungs }) (ended_of n s.latest s.rungs))
     either true f = inl (omega arith, refl)
     either false f = ended-counted n s.latest s.rungs (ends f e)
 

@@ -11,12 +11,13 @@ use Rattle.laws.proofs.Run.{run-stop, run-next, run_end, run_ends}
 use Rattle.complex.specs.declared.number.Complex.{Complex}
 use Rattle.recurrence.specs.Search.{is_found, is_lowered, lowered_of, after_trial, search_step, search_from}
 use Rattle.recurrence.specs.declared.search.Search.{Search}
-use Rattle.recurrence.specs.declared.search.Rule.{Rule}
+use Rattle.recurrence.specs.Trial.{kept}
+use Rattle.recurrence.specs.Rule.{Rule}
 
 -- ---- each rung is counted once
 after-rungs : (rule : Rule) (l : Float) (s : Search) → (after_trial rule l s).rungs ≡ s.rungs
 unfolding after_trial lowered_of
-after-rungs rule l s = go s.latest.kept (is_lowered rule s.argument l)
+after-rungs rule l s = go (kept s.latest) (is_lowered rule s.argument l)
   where
     go : (a b : Bool) → (cond a s (cond b (lowered_of s) s)).rungs ≡ s.rungs
     go true b = refl

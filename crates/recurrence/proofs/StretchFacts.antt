@@ -1,6 +1,6 @@
 -- What a rung is where its value was held: the state stays. Part of a climb: its start, one rung more, two parts in a row, the whole. Assumes nothing.
-use mathlib.Core.Path.{◌≡◌, refl, sym, ap, ◌∙◌, subst}
-use mathlib.Core.Bool.{Bool, true, false, true≢false, not, cond}
+use mathlib.Core.Path.{◌≡◌, refl, sym, ap, ◌∙◌}
+use mathlib.Core.Bool.{Bool, true, false, true≢false, cond}
 use Prim.Native.Nat.{ℕ, ◌+◌, ◌-◌, ◌≤◌, ◌<◌}
 use native.Mathlib.Nat.{le_refl}
 use native.Mathlib.Omega.{arith}
@@ -12,31 +12,27 @@ use Rattle.machine.specs.Magnitude.{magnitude_of}
 use Rattle.recurrence.specs.State.{reciprocal_of, limit_of}
 use Rattle.recurrence.specs.Rung.{factor_of, next_of, exceeds, rung_of}
 use Rattle.recurrence.specs.Climb.{climb_from}
-use Rattle.recurrence.specs.shapes.Held.{not_held, held_of}
-use Rattle.recurrence.specs.shapes.Course.{Stays}
+use Rattle.recurrence.specs.shapes.Held.{held_of}
 use Rattle.recurrence.specs.shapes.Stretch.{Partway}
 use Rattle.recurrence.specs.declared.state.Climb.{Climb}
 use Rattle.recurrence.specs.declared.state.Rung.{Rung}
-use Rattle.recurrence.specs.declared.held.Held.{Held}
+use Rattle.std.specs.Prelude.{Option, Some, None, is_some, unwrap_or}
 use Rattle.recurrence.specs.declared.course.Course.{Course}
-use Rattle.recurrence.specs.declared.course.Turn.{Turn}
 use Rattle.recurrence.proofs.ClimbFacts.{climb-out, climb-last, climb-again, rung-counted}
 use Rattle.recurrence.proofs.LimitFacts.{limit-stays}
 use Rattle.recurrence.proofs.RungFacts.{stays}
 
--- a test that was not turned
-pub held : (b : Bool) → not b ≡ false → b ≡ true
-held true e = refl
-held false e = absurd (true≢false e)
-
 -- a value that was held is the next one, and is not above the limit
-pub held-value : (limit : Float) (next : Complex) (a : Held) → a ≡ held_of limit next → not a.kept ≡ false → (a.value ≡ next) × (exceeds limit next ≡ false)
+pub held-value : (limit : Float) (next w : Complex) → Some w ≡ held_of limit next → (w ≡ next) × (exceeds limit next ≡ false)
 unfolding held_of
-held-value limit next a e k = go (exceeds limit next) refl
+held-value limit next w e = go (exceeds limit next) refl
   where
-    go : (b : Bool) → exceeds limit next ≡ b → (a.value ≡ next) × (exceeds limit next ≡ false)
-    go true h = absurd (true≢false (ap (λ (t : Held). not t.kept) (sym (e ∙ ap (λ (b : Bool). cond b not_held (record { kept = true; value = next })) h)) ∙ k))
-    go false h = (ap (λ (t : Held). t.value) (e ∙ ap (λ (b : Bool). cond b not_held (record { kept = true; value = next })) h), h)
+    go : (b : Bool) → exceeds limit next ≡ b → (w ≡ next) × (exceeds limit next ≡ false)
+    go true h = absurd (some≢none (e ∙ ap (λ (b : Bool). cond b None (Some next)) h))
+      where
+        some≢none : Some w ≡ None → ⊥
+        some≢none p = absurd (true≢false (ap is_some p))
+    go false h = (ap (λ (o : Option Complex). unwrap_or o w) (e ∙ ap (λ (b : Bool). cond b None (Some next)) h), h)
 
 -- by its parts: the real one is tested first
 module _ (limit : Float) (factor older newer : Complex) where
@@ -46,28 +42,28 @@ module _ (limit : Float) (factor older newer : Complex) where
   abbrev pub next_im : Float
   next_im = older.im ⊕ (factor.re ⊗ newer.im ⊕ factor.im ⊗ newer.re)
 
-  pub not-held-re : lt limit (magnitude_of next_re) ≡ true → not_held ≡ held_of limit (next_of factor older newer)
+  pub not-held-re : lt limit (magnitude_of next_re) ≡ true → None ≡ held_of limit (next_of factor older newer)
   unfolding held_of exceeds next_of plus_of product_of
   not-held-re h = rw h
 
-  pub not-held-im : lt limit (magnitude_of next_re) ≡ false → lt limit (magnitude_of next_im) ≡ true → not_held ≡ held_of limit (next_of factor older newer)
+  pub not-held-im : lt limit (magnitude_of next_re) ≡ false → lt limit (magnitude_of next_im) ≡ true → None ≡ held_of limit (next_of factor older newer)
   unfolding held_of exceeds next_of plus_of product_of
   not-held-im h k = rw (h, k)
 
-  pub held-parts : lt limit (magnitude_of next_re) ≡ false → lt limit (magnitude_of next_im) ≡ false → record { kept = true; value = record { re = next_re; im = next_im } } ≡ held_of limit (next_of factor older newer)
+  pub held-parts : lt limit (magnitude_of next_re) ≡ false → lt limit (magnitude_of next_im) ≡ false → Some (record { re = next_re; im = next_im }) ≡ held_of limit (next_of factor older newer)
   unfolding held_of exceeds next_of plus_of product_of
   held-parts h k = rw (h, k)
 
 module _ (two_over_z : Complex) (base_order : Float) where
   -- what a rung is where its value was held: the state stays
-  pub held-rung : {most : Float} (i n : ℕ) (c : Climb) (a : Held) → n ≡ c.rungs + 1 → most ≡ limit_of c.state
-      → a ≡ held_of most (next_of (factor_of two_over_z base_order i) c.older c.newer) → not a.kept ≡ false
-      → record { climb = record { older = c.newer; newer = a.value; state = c.state; rungs = n }; entry = times_real a.value (reciprocal_of c.state); moved = false } ≡ rung_of two_over_z base_order i c
-  held-rung {most} i n c a l m e k =
-      let h = held-value most (next_of (factor_of two_over_z base_order i) c.older c.newer) a e k in
-      ap (λ (j : ℕ). record { climb = record { older = c.newer; newer = a.value; state = c.state; rungs = j }; entry = times_real a.value (reciprocal_of c.state); moved = false }) l
-      ∙ stays two_over_z base_order i c a.value (times_real a.value (reciprocal_of c.state)) h.0 refl
-      (limit-stays c.state a.value (ap (exceeds (limit_of c.state)) h.0 ∙ ap (λ (b : Float). exceeds b (next_of (factor_of two_over_z base_order i) c.older c.newer)) (sym m) ∙ h.1))
+  pub held-rung : {most : Float} (i n : ℕ) (c : Climb) (w : Complex) → n ≡ c.rungs + 1 → most ≡ limit_of c.state
+      → Some w ≡ held_of most (next_of (factor_of two_over_z base_order i) c.older c.newer)
+      → record { climb = record { older = c.newer; newer = w; state = c.state; rungs = n }; entry = times_real w (reciprocal_of c.state); moved = false } ≡ rung_of two_over_z base_order i c
+  held-rung {most} i n c w l m e =
+      let h = held-value most (next_of (factor_of two_over_z base_order i) c.older c.newer) w e in
+      ap (λ (j : ℕ). record { climb = record { older = c.newer; newer = w; state = c.state; rungs = j }; entry = times_real w (reciprocal_of c.state); moved = false }) l
+      ∙ stays two_over_z base_order i c w (times_real w (reciprocal_of c.state)) h.0 refl
+      (limit-stays c.state w (ap (exceeds (limit_of c.state)) h.0 ∙ ap (λ (b : Float). exceeds b (next_of (factor_of two_over_z base_order i) c.older c.newer)) (sym m) ∙ h.1))
 
   pub partway_start : (from to : ℕ) (c : Climb) → Partway two_over_z base_order from to c c
   partway_start from to c = record {
@@ -117,11 +113,11 @@ module _ (two_over_z : Complex) (base_order : Float) where
       let l = ap (λ (k : Climb). k.rungs) e ∙ rung-counted two_over_z base_order i c in
       record { at = omega arith; part = partway-rung i d t h e s.part }
 
-  pub standing-held : {from to i : ℕ} {start c : Climb} {most : Float} (j n : ℕ) (a : Held) → j ≡ i + 1 → n ≡ c.rungs + 1 → i < to → most ≡ limit_of c.state
-      → a ≡ held_of most (next_of (factor_of two_over_z base_order i) c.older c.newer) → not a.kept ≡ false
-      → Standing from to start i c → Standing from to start j (record { older = c.newer; newer = a.value; state = c.state; rungs = n })
-  standing-held {from} {to} {i} {start} {c} {most} j n a u l h m e k s =
-      standing-rung j (record { older = c.newer; newer = a.value; state = c.state; rungs = n }) u h (ap (λ (r : Rung). r.climb) (held-rung i n c a l m e k)) s
+  pub standing-held : {from to i : ℕ} {start c : Climb} {most : Float} (j n : ℕ) (w : Complex) → j ≡ i + 1 → n ≡ c.rungs + 1 → i < to → most ≡ limit_of c.state
+      → Some w ≡ held_of most (next_of (factor_of two_over_z base_order i) c.older c.newer)
+      → Standing from to start i c → Standing from to start j (record { older = c.newer; newer = w; state = c.state; rungs = n })
+  standing-held {from} {to} {i} {start} {c} {most} j n w u l h m e s =
+      standing-rung j (record { older = c.newer; newer = w; state = c.state; rungs = n }) u h (ap (λ (r : Rung). r.climb) (held-rung i n c w l m e)) s
 
   -- two parts in a row, the second up to an index before the end
   pub partway-again : {from to to' : ℕ} {a b c : Climb} (i : ℕ) → i ≡ from + (b.rungs - a.rungs) → to' ≤ to → Partway two_over_z base_order from to a b → Partway two_over_z base_order i to' b c
@@ -155,34 +151,25 @@ module _ (g : Course) (start : Climb) (from : ℕ) where
   abbrev pub Turning : ℕ → Climb → Type 0
   Turning i c = Standing g.two_over_z g.base_order from (from + 4) start i c
 
-  abbrev pub Next : ℕ → Complex → Complex → Held → Type 0
-  Next i older newer a = a ≡ held_of g.most (next_of (factor_of g.two_over_z g.base_order i) older newer)
+  abbrev pub Next : ℕ → Complex → Complex → Complex → Type 0
+  Next i older newer w = Some w ≡ held_of g.most (next_of (factor_of g.two_over_z g.base_order i) older newer)
 
   pub turn-start : Turning from start
   turn-start = standing-start g.two_over_z g.base_order from (from + 4) start
 
   module _ (b : g.most ≡ limit_of start.state) where
-    pub turn_one : (a₁ : Held) → not a₁.kept ≡ false → Next from start.older start.newer a₁
-        → Turning (from + 1) (record { older = start.newer; newer = a₁.value; state = start.state; rungs = start.rungs + 1 })
-    turn_one a₁ k₁ e₁ = standing-held g.two_over_z g.base_order (from + 1) (start.rungs + 1) a₁ refl refl (omega arith) b e₁ k₁ turn-start
+    pub turn_one : {w₁ : Complex} → Next from start.older start.newer w₁ → Turning (from + 1) (record { older = start.newer; newer = w₁; state = start.state; rungs = start.rungs + 1 })
+    turn_one {w₁} e₁ = standing-held g.two_over_z g.base_order (from + 1) (start.rungs + 1) w₁ refl refl (omega arith) b e₁ turn-start
 
-    pub turn_two : (a₁ a₂ : Held) → not a₁.kept ≡ false → Next from start.older start.newer a₁ → not a₂.kept ≡ false → Next (from + 1) start.newer a₁.value a₂
-        → Turning (from + 2) (record { older = a₁.value; newer = a₂.value; state = start.state; rungs = start.rungs + 2 })
-    turn_two a₁ a₂ k₁ e₁ k₂ e₂ = standing-held g.two_over_z g.base_order (from + 2) (start.rungs + 2) a₂ (omega arith) (omega arith) (omega arith) b e₂ k₂ (turn_one a₁ k₁ e₁)
+    pub turn_two : {w₁ w₂ : Complex} → Next from start.older start.newer w₁ → Next (from + 1) start.newer w₁ w₂
+        → Turning (from + 2) (record { older = w₁; newer = w₂; state = start.state; rungs = start.rungs + 2 })
+    turn_two {w₁} {w₂} e₁ e₂ = standing-held g.two_over_z g.base_order (from + 2) (start.rungs + 2) w₂ (omega arith) (omega arith) (omega arith) b e₂ (turn_one e₁)
 
-    pub turn_three : (a₁ a₂ a₃ : Held) → not a₁.kept ≡ false → Next from start.older start.newer a₁ → not a₂.kept ≡ false → Next (from + 1) start.newer a₁.value a₂
-        → not a₃.kept ≡ false → Next (from + 2) a₁.value a₂.value a₃
-        → Turning (from + 3) (record { older = a₂.value; newer = a₃.value; state = start.state; rungs = start.rungs + 3 })
-    turn_three a₁ a₂ a₃ k₁ e₁ k₂ e₂ k₃ e₃ = standing-held g.two_over_z g.base_order (from + 3) (start.rungs + 3) a₃ (omega arith) (omega arith) (omega arith) b e₃ k₃ (turn_two a₁ a₂ k₁ e₁ k₂ e₂)
+    pub turn_three : {w₁ w₂ w₃ : Complex} → Next from start.older start.newer w₁ → Next (from + 1) start.newer w₁ w₂ → Next (from + 2) w₁ w₂ w₃
+        → Turning (from + 3) (record { older = w₂; newer = w₃; state = start.state; rungs = start.rungs + 3 })
+    turn_three {w₁} {w₂} {w₃} e₁ e₂ e₃ = standing-held g.two_over_z g.base_order (from + 3) (start.rungs + 3) w₃ (omega arith) (omega arith) (omega arith) b e₃ (turn_two e₁ e₂)
 
-    pub turn-four : (a₁ a₂ a₃ a₄ : Held) → not a₁.kept ≡ false → Next from start.older start.newer a₁ → not a₂.kept ≡ false → Next (from + 1) start.newer a₁.value a₂
-        → not a₃.kept ≡ false → Next (from + 2) a₁.value a₂.value a₃ → not a₄.kept ≡ false → Next (from + 3) a₂.value a₃.value a₄
-        → Turning (from + 4) (record { older = a₃.value; newer = a₄.value; state = start.state; rungs = start.rungs + 4 })
-    turn-four a₁ a₂ a₃ a₄ k₁ e₁ k₂ e₂ k₃ e₃ k₄ e₄ =
-        standing-held g.two_over_z g.base_order (from + 4) (start.rungs + 4) a₄ (omega arith) (omega arith) (omega arith) b e₄ k₄ (turn_three a₁ a₂ a₃ k₁ e₁ k₂ e₂ k₃ e₃)
-
-  -- what a turn gives back
-  pub turn-ends : {i : ℕ} {c : Climb} {whole : Bool} (t : Turn) → t ≡ record { climb = c; whole = whole } → c.state ≡ start.state → (whole ≡ true → c.rungs ≡ start.rungs + 4) → Turning i c
-      → Partway g.two_over_z g.base_order from (from + 4) start t.climb × Stays start t
-  turn-ends {i} {c} {whole} t e p q s =
-      subst (λ (r : Turn). Partway g.two_over_z g.base_order from (from + 4) start r.climb × Stays start r) (sym e) (s.part, record { state = p; four = q })
+    pub turn-four : {w₁ w₂ w₃ w₄ : Complex} → Next from start.older start.newer w₁ → Next (from + 1) start.newer w₁ w₂ → Next (from + 2) w₁ w₂ w₃ → Next (from + 3) w₂ w₃ w₄
+        → Turning (from + 4) (record { older = w₃; newer = w₄; state = start.state; rungs = start.rungs + 4 })
+    turn-four {w₁} {w₂} {w₃} {w₄} e₁ e₂ e₃ e₄ =
+        standing-held g.two_over_z g.base_order (from + 4) (start.rungs + 4) w₄ (omega arith) (omega arith) (omega arith) b e₄ (turn_three e₁ e₂ e₃)

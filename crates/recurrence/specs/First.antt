@@ -3,11 +3,10 @@
 use Rattle.std.specs.Prelude.{ℕ, ◌-◌, cond, ltb, Float}
 use Rattle.complex.specs.declared.number.Complex.{Complex}
 use Rattle.complex.specs.Arithmetic.{zero_pair}
-use Rattle.recurrence.specs.Trial.{first_trial}
+use Rattle.recurrence.specs.Trial.{Trial, kept, value_of, first_trial}
 use Rattle.recurrence.specs.Search.{is_found, search_at, search_from}
-use Rattle.recurrence.specs.declared.trial.Trial.{Trial}
 use Rattle.recurrence.specs.declared.search.Search.{Search}
-use Rattle.recurrence.specs.declared.search.Rule.TheVariants as rule
+use Rattle.recurrence.specs.Rule as rule
 use Rattle.recurrence.specs.declared.first.FirstOrders.{FirstOrders}
 
 -- the search, with the first two orders tried
@@ -16,13 +15,13 @@ start_of argument first second = search_at argument first second (first_trial ar
 
 -- no two in a row: all n orders are zeros, or all but the last
 unfoldable pub ended_of : ℕ → Trial → ℕ → FirstOrders
-ended_of n t rungs = record { zeros = cond t.kept (n - 1) n; first = t.value; second = zero_pair; rungs = rungs }
+ended_of n t rungs = record { zeros = cond (kept t) (n - 1) n; first = value_of t; second = zero_pair; rungs = rungs }
 
 -- found after k rungs: the orders k and k + 1 are on scale
 unfoldable pub settled_of : ℕ → Search → FirstOrders
 settled_of n s =
     cond (is_found s)
-    (record { zeros = s.rungs; first = s.before.value; second = s.latest.value; rungs = s.rungs })
+    (record { zeros = s.rungs; first = value_of s.before; second = value_of s.latest; rungs = s.rungs })
     (ended_of n s.latest s.rungs)
 
 -- of n orders from `order` on, the values of the first two being given without e to minus the argument, which is z or what a search has

@@ -2,6 +2,7 @@
 pub mod Climb
 pub mod Fill
 pub mod First
+pub mod Rule
 pub mod Rung
 pub mod Search
 pub mod State

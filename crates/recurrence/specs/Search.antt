@@ -1,7 +1,7 @@
 -- The search for two neighbouring orders on scale, from two values that stand without e^-z: ZKSCL's (zkscl.f, DO 30; `scale_k_recurrence` of
 -- src/amos/recurrence.rs) and that of ZBKNU's climb out of underflow (zbknu.f, DO 262; `k_right_half_plane` of src/amos/right_half_plane.rs).
 -- The two differ in the rule of lowering alone. K(v+1) = (2v/z) K(v) + K(v-1): DLMF 10.29.1. Definitions only.
-use Rattle.std.specs.Prelude.{ℕ, ◌+◌, Bool, not, ◌&&◌, cond, Float}
+use Rattle.std.specs.Prelude.{ℕ, ◌≡◌, ◌+◌, Bool, not, ◌&&◌, cond, Float}
 use Rattle.std.specs.Float.Ieee.{neg, lt}
 use Rattle.laws.specs.Operators.{◌⊗◌}
 use Rattle.laws.specs.Run.{run}
@@ -11,15 +11,13 @@ use Rattle.exponential.specs.Exp.{exp_of}
 use Rattle.complex.specs.declared.number.Complex.{Complex}
 use Rattle.complex.specs.Arithmetic.{times_real, minus_real}
 use Rattle.recurrence.specs.Rung.{factor_of, next_of}
-use Rattle.recurrence.specs.Trial.{ln_magnitude, reaches_limit, later_trial}
-use Rattle.recurrence.specs.declared.trial.Trial.{Trial}
+use Rattle.recurrence.specs.Trial.{Trial, kept, ln_magnitude, reaches_limit, later_trial}
+use Rattle.recurrence.specs.Rule.{Rule, FirstOrders, OutOfUnderflow}
 use Rattle.recurrence.specs.declared.search.Search.{Search}
-use Rattle.recurrence.specs.declared.search.Rule.{Rule}
-use Rattle.recurrence.specs.declared.search.Rule.TheVariants.{FirstOrders, OutOfUnderflow}
 
 -- the last two values tried are both on scale
 unfoldable pub is_found : Search → Bool
-is_found s = s.before.kept && s.latest.kept
+is_found s = kept s.before && kept s.latest
 
 -- before its first rung: two neighbouring values, and what is known of them
 abbrev pub search_at : Complex → Complex → Complex → Trial → Trial → Search
@@ -31,6 +29,10 @@ search_at argument older newer before latest =
 unfoldable pub is_lowered : Rule → Complex → Float → Bool
 is_lowered FirstOrders argument l = lt (half ⊗ exponent_limit) l
 is_lowered OutOfUnderflow argument l = reaches_limit argument l && not (lt l (half ⊗ exponent_limit))
+
+-- P of each rule that a test keeps to, of which `post` tells what it may give
+abbrev pub IsRuleOf : (Complex → Float → Bool → Type 0) → (Rule → Type 0) → Type 0
+IsRuleOf post P = (rule : Rule) → ((argument : Complex) (l : Float) (lowers : Bool) → post argument l lowers → lowers ≡ is_lowered rule argument l) → P rule
 
 -- by e^-700.92.. (ELM), and the argument's real part by 700.92..; 2/z stays that of the argument asked for
 unfoldable pub lowered_of : Search → Search
@@ -47,7 +49,7 @@ lowered_of s =
 
 -- a value that was kept stays as it is
 unfoldable pub after_trial : Rule → Float → Search → Search
-after_trial rule l s = cond s.latest.kept s (cond (is_lowered rule s.argument l) (lowered_of s) s)
+after_trial rule l s = cond (kept s.latest) s (cond (is_lowered rule s.argument l) (lowered_of s) s)
 
 -- one rung, to the order of the base plus i + 1, and its trial
 unfoldable pub search_step : Rule → Float → Complex → ℕ → Search → Search

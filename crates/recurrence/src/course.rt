@@ -1,9 +1,14 @@
-// What the rungs of a stretch share, and what a turn of four of them gives: for the loops of the climb and of the fill.
-// Where the state of scale stays, four rungs are climbed a turn, so that pairs of values take turns and none is copied.
-ghost use Rattle.std.specs.Prelude.{false, ◌≡◌};
+// What the rungs of a stretch share, and the next order's value where the state of scale stays: for the loops of the climb and of the fill.
+// From src/amos/recurrence.rs, run_recurrence_core. Where the state stays, four rungs are climbed a turn, so that pairs of values take turns and none
+// is copied. Promised: held_of of specs/shapes/Held.antt. The real part is tested before the imaginary part is formed, and the real part of the factor
+// is formed by the caller, one rung ahead: so the compiler pairs neither, which would put shuffles between one rung and the next.
+ghost use Rattle.std.specs.Prelude.{◌≡◌};
+ghost use Rattle.recurrence.specs.Rung.{factor_of, next_of};
+ghost use Rattle.recurrence.specs.shapes.Course.{Suits};
+ghost use Rattle.recurrence.specs.shapes.Held.{held_of};
 
-use crate::state::{Climb, OverflowState, reached};
 use complex::number::Complex;
+use machine::magnitude::outside;
 
 // 2/z, the base order, and the limit of the state
 #[derive(Clone, Copy)]
@@ -13,19 +18,28 @@ pub struct Course {
     pub most: f64,
 }
 
-// the climb after a turn, and whether it has all four rungs
-#[derive(Clone, Copy)]
-pub struct Turn {
-    pub climb: Climb,
-    pub whole: bool,
-}
+impl Course {
+    // the real part of the factor at the index i
+    pub fn factor_re(self, i: u32) -> f64
+        ensures { result ≡ (factor_of self.two_over_z self.base_order i).re }
+    {
+        self.two_over_z.re * (self.base_order + (i as f64))
+    }
 
-// a turn that ends before one of its four rungs
-pub fn stopped(older: Complex, newer: Complex, state: OverflowState, rungs: u32) -> Turn
-    ensures { result ≡ record { climb = record { older = older; newer = newer; state = state; rungs = rungs }; whole = false } }
-{
-    Turn {
-        climb: reached(older, newer, state, rungs),
-        whole: false,
+    // the value at the index i, where the state stays at it; p is the factor's real part
+    pub fn next_held(self, p: f64, i: u32, older: Complex, newer: Complex) -> Option<Complex>
+        requires { Suits self p i }
+        ensures { result ≡ held_of self.most (next_of (factor_of self.two_over_z self.base_order i) older newer) }
+    {
+        let turn = self.two_over_z.im * (self.base_order + (i as f64));
+        let re = older.re + (p * newer.re - turn * newer.im);
+        if outside(self.most, re) {
+            return None;
+        }
+        let im = older.im + (p * newer.im + turn * newer.re);
+        if outside(self.most, im) {
+            return None;
+        }
+        Some(Complex { re, im })
     }
 }

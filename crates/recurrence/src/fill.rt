@@ -5,15 +5,15 @@
 ghost use Rattle.std.specs.Prelude.{◌≡◌, ◌+◌, ◌-◌, ◌/◌, ◌%◌, ◌≤◌, ◌<◌, ◌^◌, length, set};
 ghost use Rattle.recurrence.specs.Fill.{fill_from};
 ghost use Rattle.recurrence.specs.State.{limit_of};
-ghost use Rattle.recurrence.specs.shapes.Course.{Suits, Stays};
+ghost use Rattle.recurrence.specs.shapes.Course.{Suits, Stays, after};
 ghost use Rattle.recurrence.specs.shapes.Stretch.{PartHeld, PartFilled, Written};
 
-use crate::course::{Course, Turn, stopped};
-use crate::held::{Held, factor_re, next_held};
+use crate::course::Course;
 use crate::off_scale::take_off;
 use crate::rung::rung;
-use crate::state::{Climb, limit, reached};
+use crate::state::Climb;
 use complex::number::Complex;
+use std::ops::ControlFlow;
 
 fn put(w: Complex, out: &mut [f64], at: usize)
     requires { at + 1 < length out.old }
@@ -32,60 +32,72 @@ fn written(
     newer: Complex,
     out: &mut [f64],
     at: usize,
-) -> Held
+) -> Option<Complex>
     requires { Suits g p i × (at + 1 < length out.old) }
     ensures { Written g i older newer result at out.old out.new }
 {
-    let a = next_held(g.most, p, g.two_over_z, g.base_order, i, older, newer);
-    let value = a.value;
-    if a.kept {
-        put(value, out, at);
-        return a;
-    }
-    a
+    let w = g.next_held(p, i, older, newer)?;
+    put(w, out, at);
+    Some(w)
 }
 
 // Four rungs on which the state stays, or those of them before one that may move. The first factor's real part is handed in.
-fn four_rungs(g: Course, p: f64, i: u32, start: Climb, out: &mut [f64], at: usize) -> Turn
+fn four_rungs(
+    g: Course,
+    p: f64,
+    i: u32,
+    start: Climb,
+    out: &mut [f64],
+    at: usize,
+) -> ControlFlow<Climb, Climb>
     requires { Suits g p i
         × (g.most ≡ limit_of start.state)
         × (i + 4 < 2 ^ 32)
         × (start.rungs + 4 < 2 ^ 32)
         × (at + 8 ≤ length out.old)
         × (length out.old < 2 ^ 32) }
-    ensures { PartHeld g.two_over_z g.base_order i (i + 4) start at out.old result.climb out.new
+    ensures { PartHeld g.two_over_z g.base_order i (i + 4) start at out.old (after result) out.new
         × Stays start result }
 {
     let state = start.state;
     let older = start.older;
     let newer = start.newer;
-    let q = factor_re(g.two_over_z, g.base_order, i + 1);
-    let a = written(g, p, i, older, newer, out, at);
-    let first = a.value;
-    if !a.kept {
-        return stopped(older, newer, state, start.rungs);
-    }
-    let r = factor_re(g.two_over_z, g.base_order, i + 2);
-    let b = written(g, q, i + 1, newer, first, out, at + 2);
-    let second = b.value;
-    if !b.kept {
-        return stopped(newer, first, state, start.rungs + 1);
-    }
-    let s = factor_re(g.two_over_z, g.base_order, i + 3);
-    let c = written(g, r, i + 2, first, second, out, at + 4);
-    let third = c.value;
-    if !c.kept {
-        return stopped(first, second, state, start.rungs + 2);
-    }
-    let d = written(g, s, i + 3, second, third, out, at + 6);
-    let fourth = d.value;
-    if !d.kept {
-        return stopped(second, third, state, start.rungs + 3);
-    }
-    Turn {
-        climb: reached(third, fourth, state, start.rungs + 4),
-        whole: true,
-    }
+    let q = g.factor_re(i + 1);
+    let Some(first) = written(g, p, i, older, newer, out, at) else {
+        return ControlFlow::Break(start);
+    };
+    let r = g.factor_re(i + 2);
+    let Some(second) = written(g, q, i + 1, newer, first, out, at + 2) else {
+        return ControlFlow::Break(Climb {
+            older: newer,
+            newer: first,
+            state,
+            rungs: start.rungs + 1,
+        });
+    };
+    let s = g.factor_re(i + 3);
+    let Some(third) = written(g, r, i + 2, first, second, out, at + 4) else {
+        return ControlFlow::Break(Climb {
+            older: first,
+            newer: second,
+            state,
+            rungs: start.rungs + 2,
+        });
+    };
+    let Some(fourth) = written(g, s, i + 3, second, third, out, at + 6) else {
+        return ControlFlow::Break(Climb {
+            older: second,
+            newer: third,
+            state,
+            rungs: start.rungs + 3,
+        });
+    };
+    ControlFlow::Continue(Climb {
+        older: third,
+        newer: fourth,
+        state,
+        rungs: start.rungs + 4,
+    })
 }
 
 // Rungs on which the state stays, four a turn: it stops before one that may move, and where less than four are left.
@@ -104,24 +116,22 @@ fn stretch(
     ensures { PartHeld two_over_z base_order from (from + (length out.old - place) / 2) start
         place out.old result out.new }
 {
-    let state = start.state;
     let g = Course {
         two_over_z,
         base_order,
-        most: limit(state),
+        most: start.state.limit(),
     };
     let mut c = start;
     let mut i = from;
     let mut at = place;
     while at < out.len() {
-        let p = factor_re(two_over_z, base_order, i);
+        let p = g.factor_re(i);
         if out.len() - at < 8 {
             return c;
         }
-        let t = four_rungs(g, p, i, c, out, at);
-        c = t.climb;
-        if !t.whole {
-            return c;
+        match four_rungs(g, p, i, c, out, at) {
+            ControlFlow::Continue(d) => c = d,
+            ControlFlow::Break(d) => return d,
         }
         i += 4;
         at += 8;

@@ -4,8 +4,8 @@
 ghost use Rattle.std.specs.Prelude.{◌≡◌, ◌<◌, ◌^◌};
 ghost use Rattle.recurrence.specs.First.{start_of, ended_of, settled_of, first_orders};
 
-use crate::search::{Rule, Search, is_found, search_at, search_from};
-use crate::trial::{Trial, first_trial};
+use crate::search::{Search, lowers_first_orders, search_at, search_from};
+use crate::trial::first_trial;
 use complex::number::{Complex, zero_pair};
 
 // How many orders are zero, the two after them, raised by 2^52 (zero where there are none), and the rungs climbed.
@@ -17,24 +17,23 @@ pub struct FirstOrders {
     pub rungs: u32,
 }
 
-fn ended(n: u32, t: Trial, rungs: u32) -> FirstOrders
+fn ended(n: u32, t: Option<Complex>, rungs: u32) -> FirstOrders
     requires { 0 < n }
     ensures { result ≡ ended_of n t rungs }
 {
-    let value = t.value;
-    if t.kept {
-        return FirstOrders {
+    match t {
+        Some(first) => FirstOrders {
             zeros: n - 1,
-            first: value,
+            first,
             second: zero_pair(),
-            rungs: rungs,
-        };
-    }
-    FirstOrders {
-        zeros: n,
-        first: value,
-        second: zero_pair(),
-        rungs: rungs,
+            rungs,
+        },
+        None => FirstOrders {
+            zeros: n,
+            first: zero_pair(),
+            second: zero_pair(),
+            rungs,
+        },
     }
 }
 
@@ -42,19 +41,18 @@ fn settled(n: u32, s: Search) -> FirstOrders
     requires { 0 < n }
     ensures { result ≡ settled_of n s }
 {
-    let before = s.before;
-    let latest = s.latest;
-    if is_found(s) {
-        let first = before.value;
-        let second = latest.value;
-        return FirstOrders {
-            zeros: s.rungs,
-            first,
-            second,
-            rungs: s.rungs,
-        };
+    let Some(first) = s.before else {
+        return ended(n, s.latest, s.rungs);
+    };
+    let Some(second) = s.latest else {
+        return ended(n, s.latest, s.rungs);
+    };
+    FirstOrders {
+        zeros: s.rungs,
+        first,
+        second,
+        rungs: s.rungs,
     }
-    ended(n, latest, s.rungs)
 }
 
 // Of n orders from `order` on, the first two values being given, without e to minus the argument: of z itself, or as a search has lowered it.
@@ -77,6 +75,6 @@ pub fn first_orders(
     let start = search_at(argument, first, second, before, latest);
     settled(
         n,
-        search_from(Rule::FirstOrders, order, two_over_z, n - 2, start),
+        search_from(lowers_first_orders, order, two_over_z, n - 2, start),
     )
 }

@@ -6,7 +6,6 @@ pub mod climb;
 pub mod course;
 pub mod fill;
 pub mod first;
-pub mod held;
 pub mod off_scale;
 pub mod rung;
 pub mod search;

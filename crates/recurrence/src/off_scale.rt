@@ -3,15 +3,13 @@
 ghost use Rattle.std.specs.Prelude.{◌≡◌};
 ghost use Rattle.recurrence.specs.shapes.Stretch.{products_of, off_scale};
 
-use crate::state::{OverflowState, reciprocal};
+use crate::state::OverflowState;
 
 fn multiply(part: &mut [f64], by: f64)
     ensures { part.new ≡ products_of by part.old }
 {
-    let mut i = 0;
-    while i < part.len() {
-        part[i] = part[i] * by;
-        i += 1;
+    for x in part.iter_mut() {
+        *x *= by;
     }
 }
 
@@ -19,8 +17,8 @@ pub fn take_off(state: OverflowState, part: &mut [f64])
     ensures { part.new ≡ off_scale state part.old }
 {
     match state {
-        OverflowState::NearUnder => multiply(part, reciprocal(state)),
+        OverflowState::NearUnder => multiply(part, state.reciprocal()),
         OverflowState::None => {}
-        OverflowState::NearOver => multiply(part, reciprocal(state)),
+        OverflowState::NearOver => multiply(part, state.reciprocal()),
     }
 }

@@ -6,7 +6,7 @@ ghost use Rattle.std.specs.Float.{binary64};
 ghost use Rattle.std.specs.Float.Ieee.{of_bits, lt};
 ghost use Rattle.recurrence.specs.Rung.{factor_of, next_of, exceeds, passes, moved_climb, rung_of};
 
-use crate::state::{Climb, OverflowState, Rung, boundary, moved_on, reciprocal, scale};
+use crate::state::{Climb, OverflowState, Rung};
 use complex::number::Complex;
 use machine::magnitude::outside;
 
@@ -24,8 +24,8 @@ fn leaves(state: OverflowState, entry: Complex) -> bool
     ensures { result ≡ passes state entry }
 {
     match state {
-        OverflowState::NearUnder => beyond(boundary(state), entry),
-        OverflowState::None => beyond(boundary(state), entry),
+        OverflowState::NearUnder => beyond(state.boundary(), entry),
+        OverflowState::None => beyond(state.boundary(), entry),
         OverflowState::NearOver => false,
     }
 }
@@ -34,10 +34,10 @@ fn leaves(state: OverflowState, entry: Complex) -> bool
 fn moved(older: Complex, entry: Complex, state: OverflowState, rungs: u32) -> Climb
     ensures { result ≡ moved_climb older entry state rungs }
 {
-    let next = moved_on(state);
-    let factor = scale(next);
+    let next = state.moved_on();
+    let factor = next.scale();
     Climb {
-        older: older.times_real(reciprocal(state)).times_real(factor),
+        older: older.times_real(state.reciprocal()).times_real(factor),
         newer: entry.times_real(factor),
         state: next,
         rungs: rungs,
@@ -67,7 +67,7 @@ pub fn rung(two_over_z: Complex, base_order: f64, i: u32, c: Climb) -> Rung
     let state = c.state;
     let rungs = c.rungs + 1;
     let next = next_value(two_over_z, base_order, i, older, newer);
-    let entry = next.times_real(reciprocal(state));
+    let entry = next.times_real(state.reciprocal());
     if leaves(state, entry) {
         return Rung {
             climb: moved(newer, entry, state, rungs),

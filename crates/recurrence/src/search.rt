@@ -2,10 +2,11 @@
 // orders on scale (ZKSCL; src/amos/recurrence.rs, scale_k_recurrence) and the climb out of underflow (ZBKNU, DO 262; src/amos/right_half_plane.rs,
 // k_right_half_plane), which differ in the rule of lowering alone. Promised: search_from of specs/Search.antt; each rung is counted once.
 ghost use Rattle.std.specs.Prelude.{◌≡◌, ◌+◌, ◌<◌, ◌^◌};
-ghost use Rattle.recurrence.specs.Search.{is_found, search_at, is_lowered, lowered_of, after_trial, search_step, search_from};
+ghost use Rattle.recurrence.specs.Rule.{FirstOrders, OutOfUnderflow};
+ghost use Rattle.recurrence.specs.Search.{IsRuleOf, is_found, search_at, is_lowered, lowered_of, after_trial, search_step, search_from};
 
 use crate::rung::next_value;
-use crate::trial::{Trial, later_trial, ln_magnitude, reaches_limit};
+use crate::trial::{later_trial, ln_magnitude, reaches_limit};
 use complex::number::Complex;
 use exponential::exp::exp;
 use machine::constants::Machine;
@@ -16,27 +17,15 @@ pub struct Search {
     pub older: Complex,
     pub newer: Complex,
     pub argument: Complex,
-    pub before: Trial,
-    pub latest: Trial,
+    pub before: Option<Complex>,
+    pub latest: Option<Complex>,
     pub rungs: u32,
-}
-
-// which values are lowered
-#[derive(Clone, Copy)]
-pub enum Rule {
-    FirstOrders,
-    OutOfUnderflow,
 }
 
 pub fn is_found(s: Search) -> bool
     ensures { result ≡ is_found s }
 {
-    let before = s.before;
-    let latest = s.latest;
-    if before.kept {
-        return latest.kept;
-    }
-    false
+    s.before.is_some() && s.latest.is_some()
 }
 
 // the search before its first rung
@@ -44,8 +33,8 @@ pub fn search_at(
     argument: Complex,
     older: Complex,
     newer: Complex,
-    before: Trial,
-    latest: Trial,
+    before: Option<Complex>,
+    latest: Option<Complex>,
 ) -> Search
     ensures { result ≡ search_at argument older newer before latest }
 {
@@ -59,113 +48,93 @@ pub fn search_at(
     }
 }
 
-// The rule of lowering, after a value that was not kept: the one place where the two searches differ.
-fn is_lowered(rule: Rule, argument: Complex, l: f64) -> bool
-    ensures { result ≡ is_lowered rule argument l }
+// The rule of lowering, after a value that was not kept, is the one place where the two searches differ: that of the first orders ..
+pub fn lowers_first_orders(_argument: Complex, l: f64) -> bool
+    ensures { result ≡ is_lowered FirstOrders _argument l }
 {
-    let half_limit = 0.5 * Machine::EXPONENT_LIMIT;
-    match rule {
-        Rule::FirstOrders => l > half_limit,
-        Rule::OutOfUnderflow => {
-            if reaches_limit(argument, l) {
-                return !(l < half_limit);
-            }
-            false
-        }
-    }
+    l > 0.5 * Machine::EXPONENT_LIMIT
+}
+
+// .. and that of the climb out of underflow
+pub fn lowers_out_of_underflow(argument: Complex, l: f64) -> bool
+    ensures { result ≡ is_lowered OutOfUnderflow argument l }
+{
+    reaches_limit(argument, l) && !(l < 0.5 * Machine::EXPONENT_LIMIT)
 }
 
 fn lowered(s: Search) -> Search
     ensures { result ≡ lowered_of s }
 {
-    let older = s.older;
-    let newer = s.newer;
-    let argument = s.argument;
-    let before = s.before;
-    let latest = s.latest;
     let factor = exp(-Machine::EXPONENT_LIMIT);
     Search {
-        older: older.times_real(factor),
-        newer: newer.times_real(factor),
-        argument: argument.minus_real(Machine::EXPONENT_LIMIT),
-        before,
-        latest,
-        rungs: s.rungs,
+        older: s.older.times_real(factor),
+        newer: s.newer.times_real(factor),
+        argument: s.argument.minus_real(Machine::EXPONENT_LIMIT),
+        ..s
     }
 }
 
-fn after_trial(rule: Rule, l: f64, s: Search) -> Search
-    ensures { result ≡ after_trial rule l s }
+fn after_trial<F: Fn(Complex, f64) -> bool + Copy>(is_lowered: F, l: f64, s: Search) -> Search
+    requires { F.IsAlwaysCallable is_lowered }
+    ensures { IsRuleOf (F.post is_lowered) (λ rule. result ≡ after_trial rule l s)
+        × (result.rungs ≡ s.rungs) }
 {
-    let argument = s.argument;
-    let latest = s.latest;
-    if latest.kept {
+    if s.latest.is_some() {
         return s;
     }
-    if is_lowered(rule, argument, l) {
+    if is_lowered(s.argument, l) {
         return lowered(s);
     }
     s
 }
 
-// The same trial, part by part: so the compiler keeps it in registers from turn to turn, where a copy of the whole goes through memory.
-fn by_parts(t: Trial) -> Trial
-    ensures { result ≡ t }
+fn search_step<F: Fn(Complex, f64) -> bool + Copy>(
+    is_lowered: F,
+    base_order: f64,
+    two_over_z: Complex,
+    i: u32,
+    s: Search,
+) -> Search
+    requires callable { F.IsAlwaysCallable is_lowered }
+    requires counted { s.rungs + 1 < 2 ^ 32 }
+    ensures { IsRuleOf (F.post is_lowered) (λ rule. result ≡ search_step rule base_order two_over_z i s)
+        × (result.rungs ≡ s.rungs + 1) }
 {
-    let value = t.value;
-    Trial {
-        value: Complex {
-            re: value.re,
-            im: value.im,
-        },
-        kept: t.kept,
-    }
-}
-
-fn search_step(rule: Rule, base_order: f64, two_over_z: Complex, i: u32, s: Search) -> Search
-    requires { s.rungs + 1 < 2 ^ 32 }
-    ensures { result ≡ search_step rule base_order two_over_z i s }
-{
-    let older = s.older;
-    let newer = s.newer;
-    let argument = s.argument;
-    let latest = s.latest;
-    let next = next_value(two_over_z, base_order, i, older, newer);
+    let next = next_value(two_over_z, base_order, i, s.older, s.newer);
     let l = ln_magnitude(next);
-    let t = later_trial(argument, next, l);
+    let latest = later_trial(s.argument, next, l);
     after_trial(
-        rule,
+        is_lowered,
         l,
         Search {
-            older: newer,
+            older: s.newer,
             newer: next,
-            argument,
-            before: by_parts(latest),
-            latest: by_parts(t),
+            argument: s.argument,
+            before: s.latest,
+            latest,
             rungs: s.rungs + 1,
         },
     )
 }
 
 // `count` rungs at most, until two neighbours are on scale
-pub fn search_from(
-    rule: Rule,
+pub fn search_from<F: Fn(Complex, f64) -> bool + Copy>(
+    is_lowered: F,
     base_order: f64,
     two_over_z: Complex,
     count: u32,
     start: Search,
 ) -> Search
-    requires { start.rungs + count < 2 ^ 31 }
-    ensures { result ≡ search_from rule base_order two_over_z count start }
+    requires callable { F.IsAlwaysCallable is_lowered }
+    requires counted { start.rungs + count < 2 ^ 31 }
+    ensures { IsRuleOf (F.post is_lowered) (λ rule. result ≡ search_from rule base_order two_over_z count start) }
 {
     let mut s = start;
-    let mut i: u32 = 1;
-    while i <= count {
+    for i in 1..=count {
         if is_found(s) {
             return s;
         }
-        s = search_step(rule, base_order, two_over_z, i, s);
-        i += 1;
+        s = search_step(is_lowered, base_order, two_over_z, i, s);
     }
     s
 }

@@ -7,7 +7,7 @@ ghost use Rattle.recurrence.specs.State.{scale_of, reciprocal_of, boundary_of, l
 use complex::number::Complex;
 use machine::constants::Machine;
 
-#[derive(Clone, Copy)]
+#[derive(Clone, Copy, Debug, PartialEq, Eq)]
 pub enum OverflowState {
     NearUnder,
     None,
@@ -31,70 +31,60 @@ pub struct Rung {
     pub moved: bool,
 }
 
-// what a value is multiplied by to be kept in this state
-pub fn scale(state: OverflowState) -> f64
-    ensures { result ≡ scale_of state }
-{
-    match state {
-        OverflowState::NearUnder => Machine::INVERSE_TOLERANCE,
-        OverflowState::None => 1.0,
-        OverflowState::NearOver => Machine::TOLERANCE,
+impl OverflowState {
+    // what a value is multiplied by to be kept in this state
+    pub fn scale(self) -> f64
+        ensures { result ≡ scale_of self }
+    {
+        match self {
+            OverflowState::NearUnder => Machine::INVERSE_TOLERANCE,
+            OverflowState::None => 1.0,
+            OverflowState::NearOver => Machine::TOLERANCE,
+        }
     }
-}
 
-// what takes the scale off again
-pub fn reciprocal(state: OverflowState) -> f64
-    ensures { result ≡ reciprocal_of state }
-{
-    match state {
-        OverflowState::NearUnder => Machine::TOLERANCE,
-        OverflowState::None => 1.0,
-        OverflowState::NearOver => Machine::INVERSE_TOLERANCE,
+    // what takes the scale off again
+    pub fn reciprocal(self) -> f64
+        ensures { result ≡ reciprocal_of self }
+    {
+        match self {
+            OverflowState::NearUnder => Machine::TOLERANCE,
+            OverflowState::None => 1.0,
+            OverflowState::NearOver => Machine::INVERSE_TOLERANCE,
+        }
     }
-}
 
-// an unscaled entry above it ends the state
-pub fn boundary(state: OverflowState) -> f64
-    ensures { result ≡ boundary_of state }
-{
-    match state {
-        OverflowState::NearUnder => Machine::ABSOLUTE_APPROXIMATION_LIMIT,
-        OverflowState::None => 1.0 / Machine::ABSOLUTE_APPROXIMATION_LIMIT,
-        OverflowState::NearOver => 1.7976931348623157e308,
+    // an unscaled entry above it ends the state
+    pub fn boundary(self) -> f64
+        ensures { result ≡ boundary_of self }
+    {
+        match self {
+            OverflowState::NearUnder => Machine::ABSOLUTE_APPROXIMATION_LIMIT,
+            OverflowState::None => 1.0 / Machine::ABSOLUTE_APPROXIMATION_LIMIT,
+            OverflowState::NearOver => 1.7976931348623157e308,
+        }
     }
-}
 
-// a value kept in this state ends it only where a part lies above this; in the last state none does
-pub fn limit(state: OverflowState) -> f64
-    ensures { result ≡ limit_of state }
-{
-    match state {
-        OverflowState::NearUnder => Machine::ABSOLUTE_APPROXIMATION_LIMIT
-            * Machine::INVERSE_TOLERANCE,
-        OverflowState::None => 1.0 / Machine::ABSOLUTE_APPROXIMATION_LIMIT,
-        OverflowState::NearOver => 1.0 / 0.0,
+    // a value kept in this state ends it only where a part lies above this; in the last state none does
+    pub fn limit(self) -> f64
+        ensures { result ≡ limit_of self }
+    {
+        match self {
+            OverflowState::NearUnder => Machine::ABSOLUTE_APPROXIMATION_LIMIT
+                * Machine::INVERSE_TOLERANCE,
+            OverflowState::None => 1.0 / Machine::ABSOLUTE_APPROXIMATION_LIMIT,
+            OverflowState::NearOver => 1.0 / 0.0,
+        }
     }
-}
 
-// one place on; the last has no other behind it
-pub fn moved_on(state: OverflowState) -> OverflowState
-    ensures { result ≡ moved_on state }
-{
-    match state {
-        OverflowState::NearUnder => OverflowState::None,
-        OverflowState::None => OverflowState::NearOver,
-        OverflowState::NearOver => OverflowState::NearOver,
-    }
-}
-
-// the climb at two neighbouring values
-pub fn reached(older: Complex, newer: Complex, state: OverflowState, rungs: u32) -> Climb
-    ensures { result ≡ record { older = older; newer = newer; state = state; rungs = rungs } }
-{
-    Climb {
-        older: older,
-        newer: newer,
-        state: state,
-        rungs: rungs,
+    // one place on; the last has no other behind it
+    pub fn moved_on(self) -> OverflowState
+        ensures { result ≡ moved_on self }
+    {
+        match self {
+            OverflowState::NearUnder => OverflowState::None,
+            OverflowState::None => OverflowState::NearOver,
+            OverflowState::NearOver => OverflowState::NearOver,
+        }
     }
 }

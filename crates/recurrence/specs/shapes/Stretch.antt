@@ -1,6 +1,6 @@
 -- How it is computed, not what: a part of a climb, which stops before a rung that may move the state of scale. What the parts promise of the climb
 -- (specs/Climb.antt) and of its cells (specs/Fill.antt). Definitions only.
-use Rattle.std.specs.Prelude.{ℕ, ◌+◌, ◌-◌, ◌*◌, ◌≤◌, ◌≡◌, Bool, cond, List, ◌++◌, map, take, set, Float}
+use Rattle.std.specs.Prelude.{ℕ, ◌+◌, ◌-◌, ◌*◌, ◌≤◌, ◌≡◌, List, ◌++◌, map, take, set, Float}
 use Rattle.std.specs.Float.{binary64}
 use Rattle.std.specs.Float.Ieee.{mul}
 use Rattle.laws.proofs.Seam.{Seam}
@@ -13,7 +13,8 @@ use Rattle.recurrence.specs.shapes.Held.{held_of}
 use Rattle.recurrence.specs.declared.state.OverflowState.{OverflowState}
 use Rattle.recurrence.specs.declared.state.OverflowState.TheVariants.{NearUnder, None, NearOver}
 use Rattle.recurrence.specs.declared.state.Climb.{Climb}
-use Rattle.recurrence.specs.declared.held.Held.{Held}
+use Rattle.std.specs.declared.option.Option.{Option}
+use Rattle.std.specs.declared.option.Option.TheVariants as option
 use Rattle.recurrence.specs.declared.course.Course.{Course}
 
 -- c is the climb from `start` after some of the rungs between two indices: as many as it counts
@@ -50,10 +51,11 @@ abbrev pub PartFilled : Complex → Float → ℕ → ℕ → Climb → ℕ → 
 PartFilled two_over_z base_order from to start place before c out = PartPut (λ (l : List Float). l) two_over_z base_order from to start place before c out
 
 -- a value at its place, where there is one to put
-abbrev pub put_if : Bool → Complex → ℕ → List Float → List Float
-put_if kept w at out = cond kept (set (set out at w.re) (at + 1) w.im) out
+abbrev pub put_if : Option Complex → ℕ → List Float → List Float
+put_if (option.Some w) at out = set (set out at w.re) (at + 1) w.im
+put_if option.None at out = out
 
 -- the next value after two, where it is held, and in its place
-pub record Written (g : Course) (i : ℕ) (older newer : Complex) (a : Held) (at : ℕ) (before out : List Float) : Type 0 where
+pub record Written (g : Course) (i : ℕ) (older newer : Complex) (a : Option Complex) (at : ℕ) (before out : List Float) : Type 0 where
   pub held : a ≡ held_of g.most (next_of (factor_of g.two_over_z g.base_order i) older newer)
-  pub put : out ≡ put_if a.kept a.value at before
+  pub put : out ≡ put_if a at before

@@ -12,7 +12,7 @@ returns-then-i-to c =
     let r = c in
     let t = r in
     let s = t in
-    let e = ap (λ (q : Rung). q.climb) r.rung-r.ensures in
+    let e = ap (λ (q : Rung). q.climb) r.rung.ensures in
     let n = ap (λ (k : Climb). k.rungs) e ∙ rung-counted _ _ _ s.stretch-c.result in
     let m = s.stretch-c.ensures.counted in
-    (partway-rung _ _ _ r.rung-r.result.climb refl t.if-i-to.true e s.stretch-c.ensures, omega arith)
+    (partway-rung _ _ _ r.rung.result.climb refl t.if-i-to.true e s.stretch-c.ensures, omega arith)

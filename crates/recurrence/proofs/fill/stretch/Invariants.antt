@@ -10,13 +10,13 @@ rungs c₀ c d h e = omega arith
 
 abbrev pub invariant-loop-at : goal.invariant-loop-at
 invariant-loop-at l =
-    (l.initial.c.rungs ≤ l.c.rungs)
-    × (l.i ≡ l.from + (l.c.rungs - l.initial.c.rungs))
-    × (l.at ≡ l.place + (l.c.rungs - l.initial.c.rungs) * 2)
-    × (l.at ≤ length l.initial.out)
-    × (length l.out ≡ length l.initial.out)
-    × (l.c.state ≡ l.initial.c.state)
-    × PartHeld l.two_over_z l.base_order l.from (l.from + (length l.initial.out - l.place) / 2) l.initial.c l.place l.initial.out l.c l.out
+    (l.fn.start.rungs ≤ l.c.rungs)
+    × (l.i ≡ l.from + (l.c.rungs - l.fn.start.rungs))
+    × (l.at ≡ l.place + (l.c.rungs - l.fn.start.rungs) * 2)
+    × (l.at ≤ length l.fn.out)
+    × (length l.out ≡ length l.fn.out)
+    × (l.c.state ≡ l.fn.start.state)
+    × PartHeld l.fn.two_over_z l.fn.base_order l.from (l.from + (length l.fn.out - l.place) / 2) l.fn.start l.place l.fn.out l.c l.out
 
 abbrev pub decreases-loop-at : goal.decreases-loop-at
-decreases-loop-at l = length l.initial.out - l.at
+decreases-loop-at l = length l.fn.out - l.at

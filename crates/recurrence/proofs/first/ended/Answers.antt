@@ -1,11 +1,11 @@
--- `recurrence::first::ended` meets its contract, by its test. Assumes nothing.
+-- `recurrence::first::ended` meets its contract, by what the trial kept. Assumes nothing.
 use Rattle.recurrence.specs.First.{ended_of}
 use Rattle.recurrence.proofs.first.ended.Goals as goal
 
-pub returns-then-t : goal.returns-then-t
+pub returns-in-Some : goal.returns-in-Some
 unfolding ended_of
-returns-then-t c = rw (c.zero_pair.ensures, c.if-t.true)
+returns-in-Some c = rw (c.zero_pair.ensures, c.in-Some.is)
 
-pub returns : goal.returns
+pub returns-in-None : goal.returns-in-None
 unfolding ended_of
-returns c = rw (c.zero_pair-2.ensures, c.if-t.false)
+returns-in-None c = rw (c.zero_pair-in-None.ensures, c.zero_pair-in-None-2.ensures, c.in-None.is)

@@ -1,12 +1,16 @@
--- `recurrence::first::settled` meets its contract, by its test. Assumes nothing.
-use mathlib.Core.Path.{sym, ◌∙◌}
+-- `recurrence::first::settled` meets its contract: by what the two trials kept. Assumes nothing.
+use Rattle.recurrence.specs.Search.{is_found}
 use Rattle.recurrence.specs.First.{settled_of}
 use Rattle.recurrence.proofs.first.settled.Goals as goal
 
-pub returns-then-is_found : goal.returns-then-is_found
-unfolding settled_of
-returns-then-is_found c = let d = c in rw (sym d.is_found.ensures ∙ d.if-is_found.true)
+pub returns-in_default : goal.returns-in_default
+unfolding settled_of is_found
+returns-in_default c = rw (c.ended.ensures, c.in_default.is)
+
+pub returns-in_default-latest : goal.returns-in_default-latest
+unfolding settled_of is_found
+returns-in_default-latest c = rw (c.ended-in_default-latest.ensures, c.in-Some.is, c.in_default-latest.is)
 
 pub returns : goal.returns
-unfolding settled_of
-returns c = rw (c.ended.ensures, sym c.is_found.ensures ∙ c.if-is_found.false)
+unfolding settled_of is_found
+returns c = rw (c.in-Some.is, c.in-Some-latest.is)

@@ -1,7 +1,7 @@
--- `recurrence::off_scale::multiply` meets its contract: the cells in front of i are the products. Assumes nothing.
+-- `recurrence::off_scale::multiply` meets its contract: the cells in front of the next one are the products. Assumes nothing.
 use mathlib.Core.Path.{◌≡◌, ap, ◌∙◌}
 use mathlib.Core.List.{[], ◌∷◌, ◌++◌}
-use Prim.Native.Nat.{ℕ, ◌<◌}
+use Prim.Native.Nat.{ℕ}
 use native.Mathlib.Nat.{le_refl}
 use native.Mathlib.Omega.{arith}
 use lib.ListN.{length, take}
@@ -12,44 +12,21 @@ use Rattle.recurrence.specs.shapes.Stretch.{products_of}
 use Rattle.recurrence.proofs.OffScaleFacts.{products-none, products-next}
 use Rattle.recurrence.proofs.off_scale.multiply.Goals as goal
 
-pub loop-i-init : goal.loop-i-init
-loop-i-init c = (omega arith, products-none _ _)
+pub loop-x-init : goal.loop-x-init
+loop-x-init c = products-none _ _
 
-pub offset_bounds-part-i : goal.offset_bounds-part-i
-offset_bounds-part-i c = omega arith
-
-pub bounds-part-i : goal.bounds-part-i
-bounds-part-i c = omega arith
-
-pub offset_bounds-part-i-in-loop-i : goal.offset_bounds-part-i-in-loop-i
-offset_bounds-part-i-in-loop-i c = omega arith
-
-pub bounds-part-i-in-loop-i : goal.bounds-part-i-in-loop-i
-bounds-part-i-in-loop-i c = omega arith
-
-pub overflow_add-i : goal.overflow_add-i
-overflow_add-i c = omega arith
-
-pub loop-i-smaller : goal.loop-i-smaller
-loop-i-smaller c = omega arith
-
-pub loop-i-preserved : goal.loop-i-preserved
-loop-i-preserved c =
-    let d = c in
-    let part = d.args.part.now in
-    let by = d.args.by in
-    let s = d.loop-i.invariant.1 in
-    let h : d.loop-i.i < length part = omega arith in (
-      omega arith,
-      seam-as (ap (λ (x : Float). products_of by (take d.loop-i.i part) ++ (mul binary64 x by ∷ [])) (seam-behind d.loop-i.i nan (le_refl d.loop-i.i) s) ∙ products-next by part d.loop-i.i nan h) (seam-store _ h s),
-    )
-
-pub shape_of-part : goal.shape_of-part
-shape_of-part c = c.loop-i.invariant.1.same
+pub loop-x-preserved : goal.loop-x-preserved
+loop-x-preserved c =
+    let part = c.args.part.now in
+    let by = c.args.by in
+    let s = c.loop-x.invariant in
+    let h = c.loop-x-test.true in
+    seam-as (ap (λ (x : Float). products_of by (take c.loop-x.x-index part) ++ (mul binary64 x by ∷ [])) (seam-behind c.loop-x.x-index nan (le_refl c.loop-x.x-index) s) ∙ products-next by part c.loop-x.x-index nan h) (seam-store _ h s)
 
 pub returns : goal.returns
 returns c =
-    let d = c in
-    let part = d.args.part.now in
-    let e : d.loop-i.i ≡ length part = omega arith in
-    seam-full (omega arith) d.loop-i.invariant.1 ∙ ap (λ (k : ℕ). products_of d.args.by (take k part)) e ∙ ap (products_of d.args.by) (take-length part)
+    let part = c.args.part.now in
+    let n = c.loop-x.auto.x-index-end in
+    let m = c.loop-x-test.false in
+    let e : c.loop-x.x-index ≡ length part = omega arith in
+    seam-full m c.loop-x.invariant ∙ ap (λ (k : ℕ). products_of c.args.by (take k part)) e ∙ ap (products_of c.args.by) (take-length part)

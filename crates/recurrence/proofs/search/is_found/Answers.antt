@@ -1,11 +1,12 @@
--- `recurrence::search::is_found` meets its contract. Assumes nothing.
+-- `recurrence::search::is_found` meets its contract: both trials are asked. Assumes nothing.
+use mathlib.Core.Path.{sym, ◌∙◌}
 use Rattle.recurrence.specs.Search.{is_found}
 use Rattle.recurrence.proofs.search.is_found.Goals as goal
 
-pub returns-then-before : goal.returns-then-before
+pub returns-then-is_some : goal.returns-then-is_some
 unfolding is_found
-returns-then-before c = rw c.if-before.true
+returns-then-is_some c = rw (sym c.is_some.ensures ∙ c.if-is_some.true, c.is_some-then-is_some.ensures)
 
-pub returns : goal.returns
+pub returns-else-is_some : goal.returns-else-is_some
 unfolding is_found
-returns c = rw c.if-before.false
+returns-else-is_some c = rw (sym c.is_some.ensures ∙ c.if-is_some.false, c.if-is_some.false)

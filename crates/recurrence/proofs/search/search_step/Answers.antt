@@ -4,7 +4,4 @@ use Rattle.recurrence.proofs.search.search_step.Goals as goal
 
 pub returns : goal.returns
 unfolding search_step
-returns c =
-    let d = c in
-    let e = d in
-    simp (c.after_trial.ensures, d.by_parts-2.ensures, d.by_parts.ensures, e.later_trial-t.ensures, e.ln_magnitude-l.ensures, e.next_value-next.ensures)
+returns g c = (λ rule k. simp (c.after_trial.ensures.0 rule k, c.later_trial-latest.ensures, c.ln_magnitude-l.ensures, c.next_value-next.ensures), c.after_trial.ensures.1)

@@ -5,7 +5,7 @@ use Rattle.recurrence.proofs.trial.first_trial.Goals as goal
 
 pub returns-then-z-ln_magnitude : goal.returns-then-z-ln_magnitude
 unfolding first_trial exponent_limit
-returns-then-z-ln_magnitude c = rw (c.failed.ensures, ← c.ln_magnitude.ensures, c.if-z-ln_magnitude.true)
+returns-then-z-ln_magnitude c = rw (← c.ln_magnitude.ensures, c.if-z-ln_magnitude.true)
 
 pub returns : goal.returns
 unfolding first_trial exponent_limit

@@ -4,7 +4,7 @@ use Rattle.recurrence.proofs.trial.kept_trial.Goals as goal
 
 pub returns-then-lost : goal.returns-then-lost
 unfolding kept_trial
-returns-then-lost c = rw (c.failed.ensures, ← c.raised-value.ensures, ← c.lost.ensures, c.if-lost.true)
+returns-then-lost c = rw (← c.raised-value.ensures, ← c.lost.ensures, c.if-lost.true)
 
 pub returns : goal.returns
 unfolding kept_trial

@@ -9,4 +9,4 @@ returns-then-reaches_limit c = rw (c.kept_trial.ensures, sym c.reaches_limit.ens
 
 pub returns : goal.returns
 unfolding later_trial
-returns c = rw (c.failed.ensures, sym c.reaches_limit.ensures ∙ c.if-reaches_limit.false)
+returns c = rw (sym c.reaches_limit.ensures ∙ c.if-reaches_limit.false)

@@ -1,8 +1,8 @@
--- `recurrence::state::boundary` meets its contract: the boundary of each state, by cases. Assumes nothing.
+-- `recurrence::state::OverflowState::boundary` meets its contract: the boundary of each state, by cases. Assumes nothing.
 use mathlib.Core.Path.{sym, ap}
 use Rattle.machine.specs.Constants.{absolute_approximation_limit}
 use Rattle.recurrence.specs.State.{boundary_of}
-use Rattle.recurrence.proofs.state.boundary.Goals as goal
+use Rattle.recurrence.proofs.state.OverflowState.boundary.Goals as goal
 
 pub returns-in-NearUnder : goal.returns-in-NearUnder
 unfolding boundary_of absolute_approximation_limit

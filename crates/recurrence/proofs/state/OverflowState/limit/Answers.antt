@@ -1,8 +1,8 @@
--- `recurrence::state::limit` meets its contract: the limit of each state, by cases. Assumes nothing.
+-- `recurrence::state::OverflowState::limit` meets its contract: the limit of each state, by cases. Assumes nothing.
 use mathlib.Core.Path.{sym, ap}
 use Rattle.machine.specs.Constants.{inverse_tolerance, absolute_approximation_limit}
 use Rattle.recurrence.specs.State.{limit_of}
-use Rattle.recurrence.proofs.state.limit.Goals as goal
+use Rattle.recurrence.proofs.state.OverflowState.limit.Goals as goal
 
 pub returns-in-NearUnder : goal.returns-in-NearUnder
 unfolding limit_of inverse_tolerance absolute_approximation_limit

@@ -1,7 +1,7 @@
--- `recurrence::state::moved_on` meets its contract: each state has its next, by cases. Assumes nothing.
+-- `recurrence::state::OverflowState::moved_on` meets its contract: each state has its next, by cases. Assumes nothing.
 use mathlib.Core.Path.{sym, ap}
 use Rattle.recurrence.specs.State.{moved_on}
-use Rattle.recurrence.proofs.state.moved_on.Goals as goal
+use Rattle.recurrence.proofs.state.OverflowState.moved_on.Goals as goal
 
 pub returns-in-NearUnder : goal.returns-in-NearUnder
 unfolding moved_on

@@ -1,8 +1,8 @@
--- `recurrence::state::reciprocal` meets its contract: the reciprocal of each state, by cases. Assumes nothing.
+-- `recurrence::state::OverflowState::reciprocal` meets its contract: the reciprocal of each state, by cases. Assumes nothing.
 use mathlib.Core.Path.{sym, ap}
 use Rattle.machine.specs.Constants.{tolerance, inverse_tolerance}
 use Rattle.recurrence.specs.State.{reciprocal_of}
-use Rattle.recurrence.proofs.state.reciprocal.Goals as goal
+use Rattle.recurrence.proofs.state.OverflowState.reciprocal.Goals as goal
 
 pub returns-in-NearUnder : goal.returns-in-NearUnder
 unfolding reciprocal_of tolerance inverse_tolerance

@@ -1,8 +1,8 @@
--- `recurrence::state::scale` meets its contract: the scale of each state, by cases. Assumes nothing.
+-- `recurrence::state::OverflowState::scale` meets its contract: the scale of each state, by cases. Assumes nothing.
 use mathlib.Core.Path.{sym, ap}
 use Rattle.machine.specs.Constants.{tolerance, inverse_tolerance}
 use Rattle.recurrence.specs.State.{scale_of}
-use Rattle.recurrence.proofs.state.scale.Goals as goal
+use Rattle.recurrence.proofs.state.OverflowState.scale.Goals as goal
 
 pub returns-in-NearUnder : goal.returns-in-NearUnder
 unfolding scale_of tolerance inverse_tolerance

@@ -2,6 +2,7 @@
 pub mod StartFacts
 pub mod TrialFacts
 pub mod StepFacts
+pub mod RatioFacts
 pub mod BackwardFacts
 pub mod NoStartFacts
 pub mod Outcome

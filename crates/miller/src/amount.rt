@@ -1,9 +1,10 @@
-// What Miller's backward steps are taken with: real numbers on the real path, complex ones off it. Promised: each operation is that of its
-// kind, real_operations and complex_operations of specs/shapes/Operations.antt.
+// What Miller's backward steps and the ratio of the seeds are taken with: real numbers on the real path, complex ones off it. Promised:
+// each operation is that of its kind, real_operations and complex_operations of specs/shapes/Operations.antt.
 ghost use Rattle.std.specs.Prelude.{◌≡◌};
 ghost use Rattle.miller.specs.shapes.Operations.{Operations, real_operations, complex_operations};
 
 use complex::number::Complex;
+use machine::magnitude::magnitude;
 
 pub trait Amount: Copy {
     ghost does: { Operations Self };
@@ -25,6 +26,21 @@ pub trait Amount: Copy {
 
     fn plus_real(self, t: f64) -> Self
         ensures { result ≡ does.plus_real self t };
+
+    fn over_real(self, t: f64) -> Self
+        ensures { result ≡ does.over_real self t };
+
+    fn opposite(self) -> Self
+        ensures { result ≡ does.opposite self };
+
+    fn conjugate(self) -> Self
+        ensures { result ≡ does.conjugate self };
+
+    fn modulus(self) -> f64
+        ensures { result ≡ does.modulus self };
+
+    fn quotient(self, w: Self) -> Self
+        ensures { result ≡ does.quotient self w };
 }
 
 impl Amount for f64 {
@@ -53,6 +69,26 @@ impl Amount for f64 {
     fn plus_real(self, t: f64) -> f64 {
         self + t
     }
+
+    fn over_real(self, t: f64) -> f64 {
+        self / t
+    }
+
+    fn opposite(self) -> f64 {
+        -self
+    }
+
+    fn conjugate(self) -> f64 {
+        self
+    }
+
+    fn modulus(self) -> f64 {
+        magnitude(self)
+    }
+
+    fn quotient(self, w: f64) -> f64 {
+        self / w
+    }
 }
 
 impl Amount for Complex {
@@ -80,5 +116,25 @@ impl Amount for Complex {
 
     fn plus_real(self, t: f64) -> Complex {
         Complex::plus_real(self, t)
+    }
+
+    fn over_real(self, t: f64) -> Complex {
+        Complex::over_real(self, t)
+    }
+
+    fn opposite(self) -> Complex {
+        Complex::opposite(self)
+    }
+
+    fn conjugate(self) -> Complex {
+        Complex::conjugate(self)
+    }
+
+    fn modulus(self) -> f64 {
+        Complex::modulus(self)
+    }
+
+    fn quotient(self, w: Complex) -> Complex {
+        Complex::quotient(self, w)
     }
 }

@@ -116,12 +116,13 @@ fn last_step(z: Complex, distance: f64, start: u32, s: Steps<Complex>) -> Steps<
 
 // Two steps a turn, so that no value is moved from one place to another. The tests between a real and an imaginary part keep the compiler
 // from pairing the two, which would put shuffles between one step and the next; what they find is no number in the end, whichever way it is
-// reached.
+// reached. The steps' own count bounds the loop: with `for _ in 0..start / 2` a turn takes 83 instructions on x86-64, and
+// tools/objects/loops.py allows 82.
 pub fn complex_steps(z: Complex, distance: f64, start: u32) -> Steps<Complex>
     ensures { result ≡ complex_steps z distance start }
 {
     let mut s = first(start);
-    for _ in 0..start / 2 {
+    while start - s.steps > 1 {
         let re = real_part(z, distance, s);
         let sum = s.sum;
         let sum_re = sum.re + re;

@@ -2,9 +2,10 @@
 // ratio of the last two. From src/amos/right_half_plane.rs, compute_large_z_miller_seeds. Promised for every argument: specs/Seeds.antt;
 // refusal 6 exactly where the search finds no start.
 ghost use Rattle.std.specs.Prelude.{◌≡◌};
-ghost use Rattle.miller.specs.Seeds.{real_second, real_seeds, complex_seeds, seeds_from, seeds_at};
+ghost use Rattle.miller.specs.Seeds.{real_seeds, complex_seeds, seeds_from, seeds_at};
 ghost use Rattle.miller.specs.shapes.Ratio.{ratio_unless, product_unless};
 
+use crate::amount::Amount;
 use crate::backward::{Steps, complex_steps, real_steps};
 use crate::point::{Order, Point, is_real};
 use complex::number::Complex;
@@ -18,59 +19,48 @@ pub struct Miller {
     pub backward: u32,
 }
 
-// Where one value alone is asked for, the second seed is 0.
-fn real_second(alone: bool, x: f64, fraction: f64, s: Steps<f64>, first: f64) -> f64
-    ensures { result ≡ real_second alone x fraction s first }
+// What the first seed is multiplied with for the second; nothing where one value alone is asked for.
+fn ratio<T: Amount>(alone: bool, z: T, fraction: f64, s: Steps<T>) -> T
+    ensures { result ≡ ratio_unless T.does alone z fraction s }
 {
     if alone {
-        return 0.0;
+        return T::from_real(0.0);
     }
-    let length = magnitude(s.newer);
-    let ratio = s.older / length * (s.newer / length);
-    ((-ratio + fraction + 0.5) / x + 1.0) * first
-}
-
-fn real_seeds(x: f64, order: Order, coefficient: f64, alone: bool, start: u32) -> Miller
-    ensures { result ≡ real_seeds x order coefficient alone start }
-{
-    let s = real_steps(x, order.distance, start);
-    let length = magnitude(s.sum);
-    let first = s.newer / length * (s.sum / length) * coefficient;
-    let second = real_second(alone, x, order.fraction, s, first);
-    Miller {
-        first: Complex { re: first, im: 0.0 },
-        second: Complex {
-            re: second,
-            im: 0.0,
-        },
-        backward: s.steps,
-    }
-}
-
-// What the first seed is multiplied with for the second.
-fn complex_ratio(alone: bool, z: Complex, fraction: f64, s: Steps<Complex>) -> Complex
-    ensures { result ≡ ratio_unless alone z fraction s }
-{
-    if alone {
-        return Complex { re: 0.0, im: 0.0 };
-    }
-    let newer = s.newer;
-    let older = s.older;
-    let length = newer.modulus();
-    let ratio = older
+    let length = s.newer.modulus();
+    let ratio = s
+        .older
         .over_real(length)
-        .product(newer.conjugate().over_real(length));
+        .product(s.newer.conjugate().over_real(length));
     let shifted = ratio.opposite().plus_real(fraction).plus_real(0.5);
     shifted.quotient(z).plus_real(1.0)
 }
 
-fn complex_second(alone: bool, ratio: Complex, first: Complex) -> Complex
-    ensures { result ≡ product_unless alone ratio first }
+// Where one value alone is asked for, the second seed is 0.
+fn second<T: Amount>(alone: bool, ratio: T, first: T) -> T
+    ensures { result ≡ product_unless T.does alone ratio first }
 {
     if alone {
-        return Complex { re: 0.0, im: 0.0 };
+        return T::from_real(0.0);
     }
     ratio.product(first)
+}
+
+// Apart from the complex path: the three factors of the first seed are multiplied in another order there, newer.product(coefficient.product(sum)).
+fn real_seeds(x: f64, order: Order, coefficient: f64, alone: bool, start: u32) -> Miller
+    ensures { result ≡ real_seeds x order coefficient alone start }
+{
+    let s = real_steps(x, order.distance, start);
+    let ratio = ratio(alone, x, order.fraction, s);
+    let length = magnitude(s.sum);
+    let first = s.newer / length * (s.sum / length) * coefficient;
+    Miller {
+        first: Complex { re: first, im: 0.0 },
+        second: Complex {
+            re: second(alone, ratio, first),
+            im: 0.0,
+        },
+        backward: s.steps,
+    }
 }
 
 // The ratio comes first: the second seed waits for it longer than for the first seed.
@@ -78,16 +68,16 @@ fn complex_seeds(z: Complex, order: Order, coefficient: Complex, alone: bool, st
     ensures { result ≡ complex_seeds z order coefficient alone start }
 {
     let s = complex_steps(z, order.distance, start);
-    let newer = s.newer;
-    let sum = s.sum;
-    let ratio = complex_ratio(alone, z, order.fraction, s);
-    let length = sum.modulus();
-    let turned = sum.conjugate().over_real(length);
-    let first = newer.over_real(length).product(coefficient.product(turned));
-    let second = complex_second(alone, ratio, first);
+    let ratio = ratio(alone, z, order.fraction, s);
+    let length = s.sum.modulus();
+    let turned = s.sum.conjugate().over_real(length);
+    let first = s
+        .newer
+        .over_real(length)
+        .product(coefficient.product(turned));
     Miller {
         first,
-        second,
+        second: second(alone, ratio, first),
         backward: s.steps,
     }
 }

@@ -13,8 +13,7 @@ use Rattle.laws.proofs.Relative.{nonnegative}
 use Rattle.laws.proofs.Bound.{Up, up-test, up-of-le}
 use Rattle.machine.specs.Small.{nothing}
 use Rattle.complex.specs.Functions.{modulus_of}
-use Rattle.call.specs.declared.checks.Verdict.TheVariants.{Admitted}
-use Rattle.call.specs.Checks.{verdict_of}
+use Rattle.call.specs.Checks.{Admitted, verdict_of}
 use Rattle.call.proofs.FirstFacts.{admitted-none}
 use Rattle.call.specs.Limits.{length_inside, largest_order, largest_part, normalised_of, are_finite, order_inside, part_inside, size_inside}
 use Rattle.power_series.proofs.VisitBound.{order-limit}

@@ -3,9 +3,8 @@ use mathlib.Core.Path.{◌≡◌, refl, sym}
 use mathlib.Core.Bool.{Bool, true, false, not, ◌&&◌}
 use mathlib.Core.List.{◌++◌}
 use Prim.Native.Nat.{ℕ, ◌/◌}
-use Rattle.call.specs.declared.checks.Verdict.TheVariants.{Admitted}
+use Rattle.call.specs.Checks.{Admitted, verdict_of, none_applies, length_checks, finite_checks, limit_checks}
 use Rattle.call.specs.Limits.{length_inside, are_finite}
-use Rattle.call.specs.Checks.{verdict_of, none_applies, length_checks, finite_checks, limit_checks}
 use Rattle.call.proofs.FirstFacts.{none_left, none_right, admitted-none}
 use Rattle.call.proofs.LimitFacts.{Lent, lent, Inside, length-passed, finite-passed, limits-passed}
 use Rattle.power_series.specs.Series.{beyond_series}

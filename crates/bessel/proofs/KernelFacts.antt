@@ -12,9 +12,8 @@ use Rattle.complex.specs.declared.number.Complex.{Complex}
 use Rattle.right_half_plane.specs.declared.kernel.Counts.{Counts}
 use Rattle.right_half_plane.specs.Kernel.{Kernel, kernel_of, after_if, afterwards}
 use Rattle.right_half_plane.proofs.Delivered.{Delivers, kernel-delivers}
-use Rattle.call.specs.declared.answer.Answer.{Answer}
+use Rattle.call.specs.Answer.{Answer, signed_of, answered_of}
 use Rattle.call.specs.Limits.{length_inside}
-use Rattle.call.specs.Answer.{signed_of, answered_of}
 use Rattle.call.proofs.LimitFacts.{lent}
 use Rattle.bessel.specs.Outcome.{judged_of, concluded_of}
 use Rattle.bessel.specs.K.{counts_answer, kernel_steps, Fewer}

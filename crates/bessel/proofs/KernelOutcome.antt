@@ -16,8 +16,7 @@ use Rattle.machine.specs.Constants.{not_a_number}
 use Rattle.cells.specs.AllFinite.{all_finite}
 use Rattle.refusal.specs.declared.refusal.Refusal.TheVariants as refusals
 use Rattle.refusal.proofs.Distinct.{never-zero}
-use Rattle.call.specs.declared.answer.Answer.{Answer}
-use Rattle.call.specs.Answer.{answered_of, refused_of}
+use Rattle.call.specs.Answer.{Answer, answered_of, refused_of, number_in, zeros_in, longest_in, rungs_in, backward_in}
 use Rattle.call.specs.Checks.{check, refused_if, verdict_from, verdict_of, number_given, none_applies, numbers_of, length_checks, finite_checks, limit_checks}
 use Rattle.call.proofs.FirstFacts.{Given, is_one_of, none-or-listed}
 use Rattle.call.proofs.WhichLimit.{HitsLimit, hits-limit}
@@ -53,14 +52,14 @@ unfolding kernel_by
 kernel-ends scaled a length = ends_with (length / 2) _ _ (kernel-delivers scaled a.order a.z a.modulus (length / 2))
 
 -- ---- the number of a call
-counts-number : (c : Counts) → (counts_answer c).number ≡ 0
+counts-number : (c : Counts) → number_in (counts_answer c) ≡ 0
 unfolding counts_answer answered_of
 counts-number c = refl
 
 -- with refusals 6 and 7 by their own words
 later-by :
     (length : ℕ) (o : Result Counts Refusal) (cells : List Float) (b c : Bool) → b ≡ refuses refusals.Start o → c ≡ refuses refusals.Climb o → EndsWith o →
-    number_given (verdict_of (check b refusals.Start ∷ check c refusals.Climb ∷ check (not (all_finite cells)) refusals.Overflow ∷ [])) ≡ (concluded_of length (kernel_steps o cells)).answer.number
+    number_given (verdict_of (check b refusals.Start ∷ check c refusals.Climb ∷ check (not (all_finite cells)) refusals.Overflow ∷ [])) ≡ number_in (concluded_of length (kernel_steps o cells)).answer
 unfolding verdict_of verdict_from refused_if number_given kernel_steps concluded_of judged_of refused_outcome refused_of
 later-by length o cells b c p q (by_answer counts e) = rw (p, q, e) (judged-number (all_finite cells) length (counts_answer counts) cells (counts-number counts))
 later-by length o cells b c p q (by-start e) = rw (p, q, e)
@@ -82,11 +81,11 @@ pub record AnsweredWhole (scaled : Bool) (a : Arguments) (length : ℕ) (o : Out
 
 -- what the counts of an answer are, and the zeros before the count
 pub record Counted (scaled : Bool) (a : Arguments) (length : ℕ) (o : Outcome) : Type 0 where
-  pub rungs : o.answer.rungs ≡ nearest_order a.order + length / 2 - 2
-  pub backward : o.answer.backward ≤ 256
-  pub terms : o.answer.longest_sum ≡ terms_of (seed_of (ground_of a.order a.z a.modulus (length / 2)) scaled)
+  pub rungs : rungs_in o.answer ≡ nearest_order a.order + length / 2 - 2
+  pub backward : backward_in o.answer ≤ 256
+  pub terms : longest_in o.answer ≡ terms_of (seed_of (ground_of a.order a.z a.modulus (length / 2)) scaled)
   pub count : ℕ
-  pub zeros : o.answer.zeros ≡ pos count
+  pub zeros : zeros_in o.answer ≡ pos count
   pub few : count ≤ length / 2
   pub front : take (count * 2) o.cells ≡ replicate (count * 2) (of_bits binary64 0)
 
@@ -108,7 +107,7 @@ delivery (Err r) l answer from cells e = absurd (let z : ◌≡◌ {A = ℕ} 0 1
 
 module _ (scaled : Bool) (v re im : Float) (length : ℕ) where
   -- the number, exactly when, and no other than the list's
-  pub numbers : Given (all_k_checks scaled (arguments_of v re im) length) (k_outcome scaled v re im length).answer.number
+  pub numbers : Given (all_k_checks scaled (arguments_of v re im) length) (number_in (k_outcome scaled v re im length).answer)
   unfolding all_k_checks kernel_checks ground_by kernel_by k_outcome k_steps
   numbers =
       let a = arguments_of v re im in
@@ -119,17 +118,17 @@ module _ (scaled : Bool) (v re im : Float) (length : ℕ) where
       (start-exactly scaled a.order a.z a.modulus (length / 2)) (climb-exactly scaled a.order a.z a.modulus (length / 2)) (kernel-ends scaled a length))
 
   -- so no number but these
-  pub admitted : T (is_one_of (k_outcome scaled v re im length).answer.number (0 ∷ 1 ∷ 2 ∷ 3 ∷ 11 ∷ 12 ∷ 4 ∷ 6 ∷ 7 ∷ 8 ∷ []))
+  pub admitted : T (is_one_of (number_in (k_outcome scaled v re im length).answer) (0 ∷ 1 ∷ 2 ∷ 3 ∷ 11 ∷ 12 ∷ 4 ∷ 6 ∷ 7 ∷ 8 ∷ []))
   admitted =
       let a = arguments_of v re im in
-      none-or-listed (all_k_checks scaled a length) (k_outcome scaled v re im length).answer.number (1 ∷ 2 ∷ 3 ∷ 11 ∷ 12 ∷ 4 ∷ 6 ∷ 7 ∷ 8 ∷ []) numbers (listed scaled a length)
+      none-or-listed (all_k_checks scaled a length) (number_in (k_outcome scaled v re im length).answer) (1 ∷ 2 ∷ 3 ∷ 11 ∷ 12 ∷ 4 ∷ 6 ∷ 7 ∷ 8 ∷ []) numbers (listed scaled a length)
 
   -- 3, 11 and 12 by the limit that was hit
-  pub limits : let a = arguments_of v re im in HitsLimit length a.order a.z.re a.z.im (k_outcome scaled v re im length).answer.number
+  pub limits : let a = arguments_of v re im in HitsLimit length a.order a.z.re a.z.im (number_in (k_outcome scaled v re im length).answer)
   unfolding all_k_checks k_checks k_own_checks argument_checks kernel_checks length_checks finite_checks limit_checks numbers_of
   limits =
       let a = arguments_of v re im in
-      hits-limit length a.order a.z.re a.z.im (k_own_checks a ++ kernel_checks scaled a length) (k_outcome scaled v re im length).answer.number numbers refl refl refl
+      hits-limit length a.order a.z.re a.z.im (k_own_checks a ++ kernel_checks scaled a length) (number_in (k_outcome scaled v re im length).answer) numbers refl refl refl
 
   whole_by : let a = arguments_of v re im in Ended (k_checks a length) length (k_steps scaled a length) →
       RefusedWhole length (k_outcome scaled v re im length) ⊎ AnsweredWhole scaled (arguments_of v re im) length (k_outcome scaled v re im length)
@@ -151,14 +150,14 @@ module _ (scaled : Bool) (v re im : Float) (length : ℕ) where
   pub whole : RefusedWhole length (k_outcome scaled v re im length) ⊎ AnsweredWhole scaled (arguments_of v re im) length (k_outcome scaled v re im length)
   whole = let a = arguments_of v re im in whole_by (ends (k_checks a length) length (k_steps scaled a length))
 
-  pub refused-whole : 0 < (k_outcome scaled v re im length).answer.number → RefusedWhole length (k_outcome scaled v re im length)
+  pub refused-whole : 0 < number_in (k_outcome scaled v re im length).answer → RefusedWhole length (k_outcome scaled v re im length)
   refused-whole h =
       elim whole [
         | inl r ↦ r
-        | inr a ↦ absurd (let z : (k_outcome scaled v re im length).answer.number ≡ 0 = ap (λ (x : Answer). x.number) a.answer ∙ counts-number a.counts in omega arith)
+        | inr a ↦ absurd (let z : number_in (k_outcome scaled v re im length).answer ≡ 0 = ap number_in a.answer ∙ counts-number a.counts in omega arith)
       ]
 
-  pub answered-whole : (k_outcome scaled v re im length).answer.number ≡ 0 → AnsweredWhole scaled (arguments_of v re im) length (k_outcome scaled v re im length)
+  pub answered-whole : number_in (k_outcome scaled v re im length).answer ≡ 0 → AnsweredWhole scaled (arguments_of v re im) length (k_outcome scaled v re im length)
   answered-whole h =
       elim whole [
         | inl r ↦ absurd (let p = never-zero r.refusal in let q = r.number in omega arith)
@@ -180,7 +179,7 @@ module _ (scaled : Bool) (v re im : Float) (length : ℕ) where
       ]
 
   -- r + n - 2 rungs in every answered call, which is none for r = 0 and n = 1
-  pub answered-counts : (k_outcome scaled v re im length).answer.number ≡ 0 → Counted scaled (arguments_of v re im) length (k_outcome scaled v re im length)
+  pub answered-counts : number_in (k_outcome scaled v re im length).answer ≡ 0 → Counted scaled (arguments_of v re im) length (k_outcome scaled v re im length)
   unfolding kernel_by counts_answer answered_of
   answered-counts h =
       let a = arguments_of v re im in
@@ -189,17 +188,17 @@ module _ (scaled : Bool) (v re im : Float) (length : ℕ) where
       let d = delivered w in
       let k = subst (Answers (nearest_order a.order + length / 2 - 2) (terms_of (seed_of (ground_of a.order a.z a.modulus (length / 2)) scaled))) w.kernel (kernel-answers scaled a.order a.z a.modulus (length / 2) (omega arith)) in
       record {
-        rungs = ap (λ (x : Answer). x.rungs) w.answer ∙ k.0;
-        backward = subst (λ (x : Answer). x.backward ≤ 256) (sym w.answer) k.1;
-        terms = ap (λ (x : Answer). x.longest_sum) w.answer ∙ k.2;
+        rungs = ap rungs_in w.answer ∙ k.0;
+        backward = subst (λ (x : Answer). backward_in x ≤ 256) (sym w.answer) k.1;
+        terms = ap longest_in w.answer ∙ k.2;
         count = w.counts.zeros;
-        zeros = ap (λ (x : Answer). x.zeros) w.answer;
+        zeros = ap zeros_in w.answer;
         few = d.0;
         front = ap (take (w.counts.zeros * 2)) w.cells ∙ d.2;
       }
 
   -- Temme's sum has met its own test by the term 18
-  pub answered-terms : (k_outcome scaled v re im length).answer.number ≡ 0 → (k_outcome scaled v re im length).answer.longest_sum ≤ 18
+  pub answered-terms : number_in (k_outcome scaled v re im length).answer ≡ 0 → longest_in (k_outcome scaled v re im length).answer ≤ 18
   answered-terms h =
       let a = arguments_of v re im in
       subst (λ (n : ℕ). n ≤ 18) (sym (answered-counts h).terms) (kernel-terms scaled a.order a.z a.modulus (length / 2))

@@ -16,6 +16,7 @@ use Rattle.bessel.specs.K.{ground_by, k_outcome}
 use Rattle.bessel.proofs.CheckFacts.{k-passed}
 use Rattle.bessel.proofs.ArgumentFacts.{normalised-fits, order-limits}
 use Rattle.bessel.proofs.KernelOutcome.{answered-whole, answered-counts}
+use Rattle.call.specs.Answer.{number_in, longest_in}
 
 -- of a call's ground: in Temme's branch the seeds are read from this sum, the longest sum counts its terms, and what is begun ends by its own test: the sum by the term 18, the
 -- difference series where the fraction is at most 0.1 in magnitude, and the series of the one log-gamma, of 1 plus the fraction, which is above zero
@@ -23,12 +24,12 @@ pub record TemmeSums (scaled : Bool) (a : Arguments) (length : ℕ) (o : Outcome
   pub near : NearEnds (ground_by a length) scaled
   pub longest-sum :
       let g = ground_by a length in
-      o.answer.longest_sum ≡ (total_of g.z g.modulus (complex_ln_of g.two_over_z) g.fraction g.square).terms
+      longest_in o.answer ≡ (total_of g.z g.modulus (complex_ln_of g.two_over_z) g.fraction g.square).terms
 
 -- any other branch begins no sum, and asks for no log-gamma
 pub record NoSums (scaled : Bool) (a : Arguments) (length : ℕ) (o : Outcome) : Type 0 where
   pub seeds : seed_of (ground_by a length) scaled ≡ other_seeds (ground_by a length) scaled
-  pub longest-sum : o.answer.longest_sum ≡ 0
+  pub longest-sum : longest_in o.answer ≡ 0
 
 pub record Sums (scaled : Bool) (a : Arguments) (length : ℕ) (o : Outcome) : Type 0 where
   pub temme : is_near (ground_by a length) ≡ true → TemmeSums scaled a length o
@@ -39,7 +40,7 @@ module _ (scaled : Bool) (v re im : Float) (length : ℕ) (F : T (fits binary64 
   unfolding arguments_of
   order-fits = normalised-fits v F
 
-  pub answered-sums-end : (k_outcome scaled v re im length).answer.number ≡ 0 → Sums scaled (arguments_of v re im) length (k_outcome scaled v re im length)
+  pub answered-sums-end : number_in (k_outcome scaled v re im length).answer ≡ 0 → Sums scaled (arguments_of v re im) length (k_outcome scaled v re im length)
   unfolding ground_by
   answered-sums-end h =
       let a = arguments_of v re im in

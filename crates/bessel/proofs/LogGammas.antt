@@ -36,6 +36,7 @@ use Rattle.bessel.specs.Series.{series_outcome}
 use Rattle.bessel.proofs.CheckFacts.{series-passed}
 use Rattle.bessel.proofs.ArgumentFacts.{order-limits}
 use Rattle.bessel.proofs.SeriesOutcome.{answered-whole}
+use Rattle.call.specs.Answer.{number_in}
 
 -- ---- where the visit asks for log-gamma: at each order that it seeds, of that order plus one; a step of the recurrence asks for none
 pub record Seeding (g : Setting) (w : Walk) : Type 0 where
@@ -86,7 +87,7 @@ above_zero v k p h few =
     between one (order_plus_one v k) (of_bits binary64 0x4097A40000000000) tt tt b.2 b.3
 
 pub answered-log-gammas-end :
-    (scaled turned : Bool) (v re im : Float) (length : ℕ) → (series_outcome scaled turned v re im length).answer.number ≡ 0 →
+    (scaled turned : Bool) (v re im : Float) (length : ℕ) → number_in (series_outcome scaled turned v re im length).answer ≡ 0 →
     (x : Float) → Asked scaled turned (arguments_of v re im) length x → T (positive x) × stirling.EndsByTest (series_argument_of x)
 answered-log-gammas-end scaled turned v re im length n x q =
     let a = arguments_of v re im in

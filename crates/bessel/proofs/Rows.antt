@@ -10,10 +10,9 @@ use Rattle.machine.specs.Small.{nothing, one}
 use Rattle.cells.specs.AllFinite.{all_finite}
 use Rattle.refusal.specs.declared.refusal.Refusal.{Refusal}
 use Rattle.refusal.specs.declared.refusal.Refusal.TheVariants.{Length, NotFinite, Sign, Series}
-use Rattle.call.specs.declared.checks.Verdict.TheVariants.{Refused}
+use Rattle.call.specs.Checks.{Refused, refused_if, verdict_from, verdict_of, length_checks, finite_checks, limit_checks}
 use Rattle.call.specs.Answer.{answered_of}
 use Rattle.call.specs.Limits.{normalised_of, length_inside, are_finite, order_inside, sign_inside, part_inside, size_inside}
-use Rattle.call.specs.Checks.{refused_if, verdict_from, verdict_of, length_checks, finite_checks, limit_checks}
 use Rattle.call.proofs.FirstFacts.{verdict-append, stays}
 use Rattle.roots.specs.Hypot.{hypot_of}
 use Rattle.machine.specs.Magnitude.{magnitude_of}

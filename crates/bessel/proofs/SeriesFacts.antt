@@ -11,9 +11,8 @@ use Rattle.power_series.specs.declared.visit.Visit.{Visit}
 use Rattle.power_series.specs.Visit.{Visited}
 use Rattle.power_series.specs.Series.{power_series_of}
 use Rattle.power_series.proofs.SeriesFacts.{series-fits}
-use Rattle.call.specs.declared.answer.Answer.{Answer}
+use Rattle.call.specs.Answer.{Answer, signed_of, answered_of}
 use Rattle.call.specs.Limits.{length_inside}
-use Rattle.call.specs.Answer.{signed_of, answered_of}
 use Rattle.call.proofs.LimitFacts.{lent}
 use Rattle.bessel.specs.Outcome.{judged_of, concluded_of}
 use Rattle.bessel.specs.Series.{visit_answer, visit_steps}

@@ -13,8 +13,7 @@ use lib.Ieee.{Float}
 use Rattle.machine.specs.Constants.{not_a_number}
 use Rattle.cells.specs.AllFinite.{all_finite}
 use Rattle.refusal.proofs.Distinct.{never-zero}
-use Rattle.call.specs.declared.answer.Answer.{Answer}
-use Rattle.call.specs.Answer.{signed_of, answered_of}
+use Rattle.call.specs.Answer.{Answer, signed_of, answered_of, number_in, zeros_in, longest_in, rungs_in, backward_in}
 use Rattle.call.specs.Checks.{refused_if, verdict_from, verdict_of, number_given, none_applies, numbers_of, length_checks, finite_checks, limit_checks}
 use Rattle.call.proofs.FirstFacts.{Given, is_one_of, none-or-listed}
 use Rattle.call.proofs.WhichLimit.{HitsLimit, hits-limit}
@@ -29,7 +28,7 @@ use Rattle.bessel.proofs.CheckFacts.{series-passed}
 use Rattle.power_series.proofs.SeriesFacts.{series-fits}
 use Rattle.bessel.proofs.CallFacts.{judged-number, RefusedWhole, refused-facts, Ended, refused, answered, ends, numbered}
 
-answer-number : (w : Visited) → (visit_answer w).number ≡ 0
+answer-number : (w : Visited) → number_in (visit_answer w) ≡ 0
 unfolding visit_answer answered_of
 answer-number w = refl
 
@@ -37,7 +36,7 @@ answer-number w = refl
 abbrev pub finished_of : Visited → List Float
 finished_of w = drop (w.visit.place * 2) w.cells
 
-later-number : (length : ℕ) (w : Visited) → number_given (verdict_of (visit_checks w)) ≡ (concluded_of length (visit_steps w)).answer.number
+later-number : (length : ℕ) (w : Visited) → number_given (verdict_of (visit_checks w)) ≡ number_in (concluded_of length (visit_steps w)).answer
 unfolding verdict_of verdict_from refused_if visit_checks visit_steps concluded_of judged_of
 later-number length w = judged-number (all_finite (finished_of w)) length (visit_answer w) w.cells (answer-number w)
 
@@ -57,10 +56,10 @@ pub record AnsweredWhole (scaled turned : Bool) (a : Arguments) (length : ℕ) (
 -- the two highest orders, and no backward step
 pub record Counted (scaled turned : Bool) (a : Arguments) (length : ℕ) (o : Outcome) : Type 0 where
   pub steps : o.answer ≡ visit_answer (visited_by scaled turned a length)
-  pub zeros : nat_abs o.answer.zeros ≤ length / 2
-  pub longest-sum : o.answer.longest_sum ≤ 19
-  pub rungs : o.answer.rungs ≤ length / 2 - 2
-  pub backward : o.answer.backward ≡ 0
+  pub zeros : nat_abs (zeros_in o.answer) ≤ length / 2
+  pub longest-sum : longest_in o.answer ≤ 19
+  pub rungs : rungs_in o.answer ≤ length / 2 - 2
+  pub backward : backward_in o.answer ≡ 0
 
 signed-magnitude : (b : Bool) (n : ℕ) → nat_abs (signed_of b n) ≡ n
 signed-magnitude true zero = refl
@@ -69,7 +68,7 @@ signed-magnitude false n = refl
 
 module _ (scaled turned : Bool) (v re im : Float) (length : ℕ) where
   -- the number, exactly when, and no other than the list's
-  pub numbers : Given (all_series_checks scaled turned (arguments_of v re im) length) (series_outcome scaled turned v re im length).answer.number
+  pub numbers : Given (all_series_checks scaled turned (arguments_of v re im) length) (number_in (series_outcome scaled turned v re im length).answer)
   unfolding all_series_checks series_outcome
   numbers =
       let a = arguments_of v re im in
@@ -77,17 +76,17 @@ module _ (scaled turned : Bool) (v re im : Float) (length : ℕ) where
       numbered (series_checks a length) (visit_checks w) length (visit_steps w) (later-number length w)
 
   -- so no number but these
-  pub admitted : T (is_one_of (series_outcome scaled turned v re im length).answer.number (0 ∷ 1 ∷ 2 ∷ 3 ∷ 11 ∷ 12 ∷ 5 ∷ 8 ∷ []))
+  pub admitted : T (is_one_of (number_in (series_outcome scaled turned v re im length).answer) (0 ∷ 1 ∷ 2 ∷ 3 ∷ 11 ∷ 12 ∷ 5 ∷ 8 ∷ []))
   admitted =
       let a = arguments_of v re im in
-      none-or-listed (all_series_checks scaled turned a length) (series_outcome scaled turned v re im length).answer.number (1 ∷ 2 ∷ 3 ∷ 11 ∷ 12 ∷ 5 ∷ 8 ∷ []) numbers (listed scaled turned a length)
+      none-or-listed (all_series_checks scaled turned a length) (number_in (series_outcome scaled turned v re im length).answer) (1 ∷ 2 ∷ 3 ∷ 11 ∷ 12 ∷ 5 ∷ 8 ∷ []) numbers (listed scaled turned a length)
 
   -- 3, 11 and 12 by the limit that was hit
-  pub limits : let a = arguments_of v re im in HitsLimit length a.order a.z.re a.z.im (series_outcome scaled turned v re im length).answer.number
+  pub limits : let a = arguments_of v re im in HitsLimit length a.order a.z.re a.z.im (number_in (series_outcome scaled turned v re im length).answer)
   unfolding all_series_checks series_checks series_own_checks argument_checks visit_checks length_checks finite_checks limit_checks numbers_of
   limits =
       let a = arguments_of v re im in
-      hits-limit length a.order a.z.re a.z.im (series_own_checks a length ++ visit_checks (visited_by scaled turned a length)) (series_outcome scaled turned v re im length).answer.number
+      hits-limit length a.order a.z.re a.z.im (series_own_checks a length ++ visit_checks (visited_by scaled turned a length)) (number_in (series_outcome scaled turned v re im length).answer)
       numbers refl refl refl
 
   -- ---- how a call ends
@@ -114,14 +113,14 @@ module _ (scaled turned : Bool) (v re im : Float) (length : ℕ) where
   pub whole : RefusedWhole length (series_outcome scaled turned v re im length) ⊎ AnsweredWhole scaled turned (arguments_of v re im) length (series_outcome scaled turned v re im length)
   whole = let a = arguments_of v re im in whole_by (ends (series_checks a length) length (visit_steps (visited_by scaled turned a length)))
 
-  pub refused-whole : 0 < (series_outcome scaled turned v re im length).answer.number → RefusedWhole length (series_outcome scaled turned v re im length)
+  pub refused-whole : 0 < number_in (series_outcome scaled turned v re im length).answer → RefusedWhole length (series_outcome scaled turned v re im length)
   refused-whole h =
       elim whole [
         | inl r ↦ r
-        | inr a ↦ absurd (let z : (series_outcome scaled turned v re im length).answer.number ≡ 0 = ap (λ (x : Answer). x.number) a.answer ∙ answer-number (visited_by scaled turned (arguments_of v re im) length) in omega arith)
+        | inr a ↦ absurd (let z : number_in (series_outcome scaled turned v re im length).answer ≡ 0 = ap number_in a.answer ∙ answer-number (visited_by scaled turned (arguments_of v re im) length) in omega arith)
       ]
 
-  pub answered-whole : (series_outcome scaled turned v re im length).answer.number ≡ 0 → AnsweredWhole scaled turned (arguments_of v re im) length (series_outcome scaled turned v re im length)
+  pub answered-whole : number_in (series_outcome scaled turned v re im length).answer ≡ 0 → AnsweredWhole scaled turned (arguments_of v re im) length (series_outcome scaled turned v re im length)
   answered-whole h =
       elim whole [
         | inl r ↦ absurd (let p = never-zero r.refusal in let q = r.number in omega arith)
@@ -142,7 +141,7 @@ module _ (scaled turned : Bool) (v re im : Float) (length : ℕ) where
       ]
 
   -- the counts of every answered call
-  pub answered-counts : (series_outcome scaled turned v re im length).answer.number ≡ 0 → Counted scaled turned (arguments_of v re im) length (series_outcome scaled turned v re im length)
+  pub answered-counts : number_in (series_outcome scaled turned v re im length).answer ≡ 0 → Counted scaled turned (arguments_of v re im) length (series_outcome scaled turned v re im length)
   unfolding visited_by visit_answer answered_of
   answered-counts h =
       let b = arguments_of v re im in
@@ -153,8 +152,8 @@ module _ (scaled turned : Bool) (v re im : Float) (length : ℕ) where
       let few : w.zeros ≤ length / 2 = f.zeros in
       record {
         steps = a.answer;
-        zeros = subst (λ (n : ℕ). n ≤ length / 2) (sym (ap (λ (x : Answer). nat_abs x.zeros) a.answer ∙ signed-magnitude w.stopped w.zeros)) few;
-        longest-sum = subst (λ (x : Answer). x.longest_sum ≤ 19) (sym a.answer) f.longest;
-        rungs = subst (λ (x : Answer). x.rungs ≤ length / 2 - 2) (sym a.answer) f.rungs;
-        backward = ap (λ (x : Answer). x.backward) a.answer;
+        zeros = subst (λ (n : ℕ). n ≤ length / 2) (sym (ap (λ (x : Answer). nat_abs (zeros_in x)) a.answer ∙ signed-magnitude w.stopped w.zeros)) few;
+        longest-sum = subst (λ (x : Answer). longest_in x ≤ 19) (sym a.answer) f.longest;
+        rungs = subst (λ (x : Answer). rungs_in x ≤ length / 2 - 2) (sym a.answer) f.rungs;
+        backward = ap backward_in a.answer;
       }

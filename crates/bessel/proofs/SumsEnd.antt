@@ -18,6 +18,7 @@ use Rattle.bessel.specs.Series.{series_outcome}
 use Rattle.bessel.proofs.CheckFacts.{series-passed}
 use Rattle.bessel.proofs.ArgumentFacts.{order-up, modulus-limit}
 use Rattle.bessel.proofs.SeriesOutcome.{answered-whole}
+use Rattle.call.specs.Answer.{number_in}
 
 -- wherever the visit wants a seed and its sum is not 1 at once
 pub admitted-sums-end :
@@ -32,7 +33,7 @@ admitted-sums-end scaled turned v re im length Fr Fi n i h e =
 
 -- the sums of an answered call
 pub answered-sums-end :
-    (scaled turned : Bool) (v re im : Float) (length : ℕ) → T (fits binary64 re) → T (fits binary64 im) → (series_outcome scaled turned v re im length).answer.number ≡ 0 →
+    (scaled turned : Bool) (v re im : Float) (length : ℕ) → T (fits binary64 re) → T (fits binary64 im) → number_in (series_outcome scaled turned v re im length).answer ≡ 0 →
     (i : ℕ) → let a = arguments_of v re im in let g = setting_of scaled turned a.order a.z a.modulus in let u = order_plus_one a.order ((walk_after g (length / 2) i).standing.left - 1) in
     Wanted (walk_after g (length / 2) i) → sum_is_one (half_square a.modulus) u ≡ false → EndsByTest g.half_z_sq (half_square a.modulus) u
 answered-sums-end scaled turned v re im length Fr Fi n i h e = admitted-sums-end scaled turned v re im length Fr Fi (answered-whole scaled turned v re im length n).passed i h e

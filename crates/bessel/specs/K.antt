@@ -8,8 +8,7 @@ use Rattle.right_half_plane.specs.declared.ground.Ground.{Ground}
 use Rattle.right_half_plane.specs.Ground.{ground_of}
 use Rattle.right_half_plane.specs.Kernel.{Kernel, kernel_of}
 use Rattle.right_half_plane.specs.Refusals.{start_refused, climb_refused}
-use Rattle.call.specs.declared.answer.Answer.{Answer}
-use Rattle.call.specs.Answer.{signed_of, answered_of}
+use Rattle.call.specs.Answer.{Answer, signed_of, answered_of}
 use Rattle.call.specs.Checks.{Check, check}
 use Rattle.bessel.specs.declared.arguments.Arguments.{Arguments}
 use Rattle.bessel.specs.Arguments.{arguments_of}

@@ -1,14 +1,11 @@
 -- The outcome of a call on a buffer of so many cells: what it returns, and what every cell then holds. Definitions only.
-use Rattle.std.specs.Prelude.{Bool, true, false, List, ℕ, drop, replicate, Float}
+use Rattle.std.specs.Prelude.{Bool, true, false, List, ℕ, drop, replicate, Float, Ok, Err}
 use Rattle.machine.specs.Constants.{not_a_number}
 use Rattle.cells.specs.AllFinite.{all_finite}
 use Rattle.refusal.specs.declared.refusal.Refusal.{Refusal}
 use Rattle.refusal.specs.declared.refusal.Refusal.TheVariants.{Overflow}
-use Rattle.call.specs.declared.answer.Answer.{Answer}
-use Rattle.call.specs.declared.checks.Verdict.{Verdict}
-use Rattle.call.specs.declared.checks.Verdict.TheVariants.{Admitted, Refused}
-use Rattle.call.specs.Answer.{refused_of}
-use Rattle.call.specs.Checks.{Check, verdict_of}
+use Rattle.call.specs.Answer.{Answer, refused_of}
+use Rattle.call.specs.Checks.{Check, Verdict, verdict_of}
 
 pub record Outcome : Type 0 where
   pub answer : Answer
@@ -37,8 +34,8 @@ concluded_of length (Stopped refusal) = refused_outcome refusal length
 
 -- ---- a call: refused by the first of its checks that applies, and otherwise what its steps come to
 unfoldable pub outcome_by : Verdict → ℕ → Steps → Outcome
-outcome_by Admitted length steps = concluded_of length steps
-outcome_by (Refused refusal) length steps = refused_outcome refusal length
+outcome_by (Ok admitted) length steps = concluded_of length steps
+outcome_by (Err refusal) length steps = refused_outcome refusal length
 
 unfoldable pub call_outcome : List Check → ℕ → Steps → Outcome
 call_outcome checks length steps = outcome_by (verdict_of checks) length steps

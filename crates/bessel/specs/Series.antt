@@ -4,8 +4,7 @@ use Rattle.refusal.specs.declared.refusal.Refusal.TheVariants.{Overflow}
 use Rattle.cells.specs.AllFinite.{all_finite}
 use Rattle.power_series.specs.Visit.{Visited}
 use Rattle.power_series.specs.Series.{power_series_of}
-use Rattle.call.specs.declared.answer.Answer.{Answer}
-use Rattle.call.specs.Answer.{signed_of, answered_of}
+use Rattle.call.specs.Answer.{Answer, signed_of, answered_of}
 use Rattle.call.specs.Checks.{Check, check}
 use Rattle.bessel.specs.declared.arguments.Arguments.{Arguments}
 use Rattle.bessel.specs.Arguments.{arguments_of}

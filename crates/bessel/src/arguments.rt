@@ -13,6 +13,7 @@ pub struct Arguments {
     pub modulus: f64,
 }
 
+#[tactic(auto, unfolding(crate::specs::Arguments::arguments_of))]
 pub fn prepare(v: f64, re: f64, im: f64) -> Arguments
     ensures { result ≡ arguments_of v re im }
 {

@@ -6,7 +6,7 @@ ghost use Rattle.call.specs.Checks.{verdict_of};
 ghost use Rattle.bessel.specs.Checks.{argument_checks, k_checks, series_checks};
 
 use crate::arguments::Arguments;
-use call::checks::Verdict;
+use call::checks::{finite_checked, length_checked, limits_checked, refused_if};
 use call::limits::is_zero;
 use refusal::refusal::Refusal;
 
@@ -19,40 +19,27 @@ fn beyond_series(a: Arguments, n: u32) -> bool
     a.modulus * a.modulus * 0.25 > largest_order + 1.0
 }
 
-// The limits are looked at where the arguments are finite alone, so that the calls that are admitted pass by one branch after the other.
-fn argument_verdict(a: Arguments, length: usize) -> Verdict
+fn argument_verdict(a: Arguments, length: usize) -> Result<(), Refusal>
     ensures { result ≡ verdict_of (argument_checks a length) }
 {
     let z = a.z;
-    let verdict = Verdict::Admitted
-        .length_checked(length)
-        .finite_checked(a.order, z.re, z.im);
-    match verdict {
-        Verdict::Admitted => verdict.limits_checked(a.order, z.re, z.im),
-        Verdict::Refused(_) => verdict,
-    }
+    length_checked(length)?;
+    finite_checked(a.order, z.re, z.im)?;
+    limits_checked(a.order, z.re, z.im)
 }
 
-pub fn k_verdict(a: Arguments, length: usize) -> Verdict
+pub fn k_verdict(a: Arguments, length: usize) -> Result<(), Refusal>
     ensures { result ≡ verdict_of (k_checks a length) }
 {
     let z = a.z;
-    let verdict = argument_verdict(a, length);
-    match verdict {
-        Verdict::Admitted => verdict.refused_if(is_zero(z.re, z.im), Refusal::Zero),
-        Verdict::Refused(_) => verdict,
-    }
+    argument_verdict(a, length)?;
+    refused_if(is_zero(z.re, z.im), Refusal::Zero)
 }
 
 // How many orders are asked for is known of an admitted length alone.
-pub fn series_verdict(a: Arguments, length: usize) -> Verdict
+pub fn series_verdict(a: Arguments, length: usize) -> Result<(), Refusal>
     ensures { result ≡ verdict_of (series_checks a length) }
 {
-    let verdict = argument_verdict(a, length);
-    match verdict {
-        Verdict::Admitted => {
-            verdict.refused_if(beyond_series(a, (length / 2) as u32), Refusal::Series)
-        }
-        Verdict::Refused(_) => verdict,
-    }
+    argument_verdict(a, length)?;
+    refused_if(beyond_series(a, (length / 2) as u32), Refusal::Series)
 }

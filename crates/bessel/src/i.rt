@@ -7,6 +7,7 @@ ghost use Rattle.bessel.specs.I.{i_outcome};
 use crate::series::series_call;
 use call::answer::Answer;
 
+#[tactic(auto, unfolding(crate::specs::I::i_outcome))]
 pub fn i(scaled: bool, v: f64, re: f64, im: f64, out: &mut [f64]) -> Answer
     ensures { (result ≡ (i_outcome scaled v re im (length out.old)).answer)
         × (out.new ≡ (i_outcome scaled v re im (length out.old)).cells) }

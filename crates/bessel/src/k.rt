@@ -12,20 +12,24 @@ ghost use Rattle.bessel.specs.K.{Fewer, kernel_steps, k_steps, k_outcome};
 use crate::arguments::{Arguments, prepare};
 use crate::checks::k_verdict;
 use crate::outcome::{judge, refuse};
-use call::answer::{Answer, answered, signed};
-use call::checks::Verdict;
+use call::answer::{Answer, Counts, signed};
 use refusal::refusal::Refusal;
-use right_half_plane::kernel::{Counts, k_right_half_plane};
+use right_half_plane::kernel;
 
 // Every entry of an answer is finished; a refusal has left the cells as they were, and they are filled here.
-fn concluded(ending: Result<Counts, Refusal>, out: &mut [f64]) -> Answer
+fn concluded(ending: Result<kernel::Counts, Refusal>, out: &mut [f64]) -> Answer
     requires { Fewer ending }
     ensures { (result ≡ (concluded_of (length out.old) (kernel_steps ending out.old)).answer)
         × (out.new ≡ (concluded_of (length out.old) (kernel_steps ending out.old)).cells) }
 {
     match ending {
         Ok(c) => judge(
-            answered(signed(false, c.zeros), c.longest_sum, c.rungs, c.backward),
+            Ok(Counts {
+                zeros: signed(false, c.zeros),
+                longest_sum: c.longest_sum,
+                rungs: c.rungs,
+                backward: c.backward,
+            }),
             0,
             out,
         ),
@@ -42,7 +46,7 @@ fn by_kernel(scaled: bool, a: Arguments, out: &mut [f64]) -> Answer
         × (out.new ≡ (concluded_of (length out.old) (k_steps scaled a (length out.old))).cells) }
 {
     let z = a.z;
-    let ending = k_right_half_plane(scaled, a.order, z, a.modulus, out);
+    let ending = kernel::k_right_half_plane(scaled, a.order, z, a.modulus, out);
     concluded(ending, out)
 }
 
@@ -53,7 +57,7 @@ pub fn k(scaled: bool, v: f64, re: f64, im: f64, out: &mut [f64]) -> Answer
     let a = prepare(v, re, im);
     let verdict = k_verdict(a, out.len());
     match verdict {
-        Verdict::Admitted => by_kernel(scaled, a, out),
-        Verdict::Refused(refusal) => refuse(refusal, out),
+        Ok(()) => by_kernel(scaled, a, out),
+        Err(refusal) => refuse(refusal, out),
     }
 }

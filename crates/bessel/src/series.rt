@@ -9,8 +9,7 @@ ghost use Rattle.bessel.specs.Series.{visited_by, visit_steps, series_outcome};
 use crate::arguments::{Arguments, prepare};
 use crate::checks::series_verdict;
 use crate::outcome::{judge, refuse};
-use call::answer::{Answer, answered, signed};
-use call::checks::Verdict;
+use call::answer::{Answer, Counts, signed};
 use power_series::series::power_series;
 
 // Only the entries from the place where the visit stopped are finished: it is 0 where it did not stop.
@@ -21,13 +20,13 @@ fn by_series(scaled: bool, turned: bool, a: Arguments, out: &mut [f64]) -> Answe
 {
     let z = a.z;
     let visit = power_series(scaled, turned, a.order, z, a.modulus, out);
-    let answer = answered(
-        signed(visit.stopped, visit.zeros),
-        visit.longest_sum,
-        visit.rungs,
-        0,
-    );
-    judge(answer, visit.place * 2, out)
+    let counts = Counts {
+        zeros: signed(visit.stopped, visit.zeros),
+        longest_sum: visit.longest_sum,
+        rungs: visit.rungs,
+        backward: 0,
+    };
+    judge(Ok(counts), visit.place * 2, out)
 }
 
 pub fn series_call(scaled: bool, turned: bool, v: f64, re: f64, im: f64, out: &mut [f64]) -> Answer
@@ -37,7 +36,7 @@ pub fn series_call(scaled: bool, turned: bool, v: f64, re: f64, im: f64, out: &m
     let a = prepare(v, re, im);
     let verdict = series_verdict(a, out.len());
     match verdict {
-        Verdict::Admitted => by_series(scaled, turned, a, out),
-        Verdict::Refused(refusal) => refuse(refusal, out),
+        Ok(()) => by_series(scaled, turned, a, out),
+        Err(refusal) => refuse(refusal, out),
     }
 }

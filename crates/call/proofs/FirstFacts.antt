@@ -10,9 +10,8 @@ use borrow.Author.Tests.{eq-eqb}
 use Rattle.refusal.specs.Number.{number_of}
 use Rattle.refusal.specs.declared.refusal.Refusal.{Refusal}
 use Rattle.refusal.proofs.Distinct.{never-zero}
-use Rattle.call.specs.declared.checks.Verdict.{Verdict}
-use Rattle.call.specs.declared.checks.Verdict.TheVariants.{Admitted, Refused}
-use Rattle.call.specs.Checks.{Check, refused_if, verdict_from, verdict_of, number_given, none_applies, is_first, numbers_of}
+use Rattle.std.specs.Prelude.{Ok, Err}
+use Rattle.call.specs.Checks.{Check, Verdict, Admitted, Refused, refused_if, verdict_from, verdict_of, then_verdict, number_given, none_applies, is_first, numbers_of}
 
 -- P exactly when the test passes
 abbrev pub Exactly : Type 0 → Bool → Type 0
@@ -31,6 +30,15 @@ pub verdict-append : (v : Verdict) (xs ys : List Check) → verdict_from v (xs +
 unfolding verdict_from
 verdict-append v [] ys = refl
 verdict-append v (c ∷ cs) ys = verdict-append (refused_if v c.applies c.refusal) cs ys
+
+-- the verdict of a list joined to another: the first's refusal, and the second's verdict where the first admits
+pub verdict-joined : (xs ys : List Check) → verdict_of (xs ++ ys) ≡ then_verdict (verdict_of xs) (verdict_of ys)
+unfolding verdict_of
+verdict-joined xs ys = verdict-append Admitted xs ys ∙ by (verdict_from Admitted xs)
+  where
+    by : (v : Verdict) → verdict_from v ys ≡ then_verdict v (verdict_from Admitted ys)
+    by (Ok admitted) = refl
+    by (Err r) = stays r ys
 
 and_assoc : (a b c : Bool) → ((a && b) && c) ≡ (a && (b && c))
 and_assoc true b c = refl
@@ -103,8 +111,8 @@ none-test (c ∷ cs) = none-step c.applies c.refusal cs (none-test cs)
 
 admits : (v : Verdict) → number_given v ≡ 0 → v ≡ Admitted
 unfolding number_given
-admits Admitted e = refl
-admits (Refused r) e = absurd (let p = never-zero r in omega arith)
+admits (Ok admitted) e = refl
+admits (Err r) e = absurd (let p = never-zero r in omega arith)
 
 pub admitted-none : (cs : List Check) → verdict_of cs ≡ Admitted → none_applies cs ≡ true
 unfolding number_given

@@ -1,11 +1,9 @@
 -- The checks of a call: a list, and the first of it that applies. Definitions only.
-use Rattle.std.specs.Prelude.{Bool, true, false, not, cond, ◌&&◌, ◌||◌, List, [], ◌∷◌, ℕ, eqb, Float}
+use Rattle.std.specs.Prelude.{Bool, true, false, not, cond, ◌&&◌, ◌||◌, List, [], ◌∷◌, ℕ, eqb, Float, Result, Ok, Err, ⊤}
 use Rattle.refusal.specs.Number.{number_of}
 use Rattle.refusal.specs.declared.refusal.Refusal.{Refusal}
 use Rattle.refusal.specs.declared.refusal.Refusal.TheVariants.{Length, NotFinite, Order, Sign, Size}
 use Rattle.call.specs.Limits.{length_inside, are_finite, order_inside, sign_inside, size_inside}
-use Rattle.call.specs.declared.checks.Verdict.{Verdict}
-use Rattle.call.specs.declared.checks.Verdict.TheVariants.{Admitted, Refused}
 
 -- a refusal, and whether it applies
 pub record Check : Type 0 where
@@ -15,10 +13,20 @@ pub record Check : Type 0 where
 abbrev pub check : Bool → Refusal → Check
 check applies refusal = record { applies = applies; refusal = refusal }
 
+-- admitted, or refused
+abbrev pub Verdict : Type 0
+Verdict = Result ⊤ Refusal
+
+abbrev pub Admitted : Verdict
+Admitted = Ok tt
+
+abbrev pub Refused : Refusal → Verdict
+Refused refusal = Err refusal
+
 -- the first that applies refuses; none admits the call
 unfoldable pub refused_if : Verdict → Bool → Refusal → Verdict
-refused_if Admitted applies refusal = cond applies (Refused refusal) Admitted
-refused_if (Refused before) applies refusal = Refused before
+refused_if (Ok admitted) applies refusal = cond applies (Refused refusal) Admitted
+refused_if (Err before) applies refusal = Refused before
 
 unfoldable pub verdict_from : Verdict → List Check → Verdict
 verdict_from verdict [] = verdict
@@ -27,10 +35,15 @@ verdict_from verdict (c ∷ cs) = verdict_from (refused_if verdict c.applies c.r
 unfoldable pub verdict_of : List Check → Verdict
 verdict_of cs = verdict_from Admitted cs
 
+-- what is asked next counts only where nothing before it refuses
+abbrev pub then_verdict : Verdict → Verdict → Verdict
+then_verdict (Ok admitted) next = next
+then_verdict (Err before) next = Refused before
+
 -- the number that a verdict gives: 0 where the call is admitted
 unfoldable pub number_given : Verdict → ℕ
-number_given Admitted = 0
-number_given (Refused refusal) = number_of refusal
+number_given (Ok admitted) = 0
+number_given (Err refusal) = number_of refusal
 
 -- ---- parts of the lists, which the callers share
 unfoldable pub length_checks : ℕ → List Check

@@ -1,5 +1,5 @@
 // What is asked for: K or I.
-#[derive(Clone, Copy)]
+#[derive(Clone, Copy, Debug, PartialEq, Eq)]
 pub enum Kind {
     K,
     I,

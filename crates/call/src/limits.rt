@@ -14,77 +14,58 @@ pub const LARGEST_COUNT: usize = 512;
 pub const LONGEST_BUFFER: usize = 1024;
 
 // -0 is made +0
+#[tactic(auto, unfolding(crate::specs::Limits::normalised_of))]
 pub fn normalised(x: f64) -> f64
     ensures { result ≡ normalised_of x }
 {
-    if x == 0.0 {
-        return 0.0;
-    }
-    x
+    if x == 0.0 { 0.0 } else { x }
 }
 
+#[tactic(auto, unfolding(crate::specs::Limits::length_inside))]
 pub fn length_inside(length: usize) -> bool
     ensures { result ≡ length_inside length }
 {
-    if length == 0 {
-        return false;
-    }
-    if length > LONGEST_BUFFER {
-        return false;
-    }
-    length % 2 == 0
+    length > 0 && length <= LONGEST_BUFFER && length % 2 == 0
 }
 
+#[tactic(auto, unfolding(crate::specs::Limits::are_finite))]
 pub fn are_finite(v: f64, re: f64, im: f64) -> bool
     ensures { result ≡ are_finite v re im }
 {
-    if !is_finite(v) {
-        return false;
-    }
-    if !is_finite(re) {
-        return false;
-    }
-    is_finite(im)
+    is_finite(v) && is_finite(re) && is_finite(im)
 }
 
+#[tactic(auto, unfolding(crate::specs::Limits::order_inside))]
 pub fn order_inside(v: f64) -> bool
     ensures { result ≡ order_inside v }
 {
-    if v >= 0.0 {
-        return v <= LARGEST_ORDER;
-    }
-    false
+    v >= 0.0 && v <= LARGEST_ORDER
 }
 
+#[tactic(auto, unfolding(crate::specs::Limits::sign_inside))]
 pub fn sign_inside(re: f64) -> bool
     ensures { result ≡ sign_inside re }
 {
     re >= 0.0
 }
 
+#[tactic(auto, unfolding(crate::specs::Limits::part_inside))]
 fn part_inside(x: f64) -> bool
     ensures { result ≡ part_inside x }
 {
-    if x >= -LARGEST_PART {
-        return x <= LARGEST_PART;
-    }
-    false
+    x >= -LARGEST_PART && x <= LARGEST_PART
 }
 
+#[tactic(auto, unfolding(crate::specs::Limits::size_inside))]
 pub fn size_inside(re: f64, im: f64) -> bool
     ensures { result ≡ size_inside re im }
 {
-    if part_inside(re) {
-        return part_inside(im);
-    }
-    false
+    part_inside(re) && part_inside(im)
 }
 
+#[tactic(auto, unfolding(crate::specs::Limits::is_zero))]
 pub fn is_zero(re: f64, im: f64) -> bool
     ensures { result ≡ is_zero re im }
 {
-    if re == 0.0 {
-        return im == 0.0;
-    }
-    false
+    re == 0.0 && im == 0.0
 }

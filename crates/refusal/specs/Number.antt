@@ -1,6 +1,7 @@
 -- The number of each refusal, as in docs/SCOPE.md's table. Definitions only.
-use Rattle.std.specs.Prelude.{Bool, ◌&&◌, ◌||◌, ℕ, ltb, leb, eqb}
+use Rattle.std.specs.Prelude.{◌≡◌, Bool, false, ◌&&◌, ◌||◌, ℕ, ltb, leb, eqb, Result, MatchResult}
 use Rattle.refusal.specs.declared.refusal.Refusal.{Refusal}
+use Rattle.refusal.specs.declared.refusal.Unlisted.{Unlisted}
 use Rattle.refusal.specs.declared.refusal.Refusal.TheVariants.{Length, NotFinite, Order, Zero, Series, Start, Climb, Overflow, Malformed, NotPositive}
 use Rattle.refusal.specs.declared.refusal.Refusal.TheVariants.{Sign, Size, Steps, Full}
 
@@ -23,3 +24,7 @@ number_of Full = 15
 -- the numbers that there are: each is some refusal's, and no refusal has another (proofs/Distinct.antt); 14 is no one's
 unfoldable pub is_listed : ℕ → Bool
 is_listed n = (ltb 0 n && leb n 13) || eqb n 15
+
+-- the refusal with this number, or the number itself where it is no refusal's
+abbrev pub ReadsNumber : ℕ → Result Refusal Unlisted → Type 0
+ReadsNumber n r = MatchResult r (λ refusal. number_of refusal ≡ n) (λ e. (e.0 ≡ n) × (is_listed n ≡ false))

@@ -1,9 +1,9 @@
 // The refusals, in the order of their numbers. A call gives the first that applies in the order of its own checks; an answer has the number 0.
 // docs/SCOPE.md says exactly when each is given. Promised: the numbers of specs/Number.antt, no two of which are equal.
 ghost use Rattle.std.specs.Prelude.{◌≡◌};
-ghost use Rattle.refusal.specs.Number.{number_of, is_listed};
+ghost use Rattle.refusal.specs.Number.{number_of, is_listed, ReadsNumber};
 
-#[derive(Clone, Copy)]
+#[derive(Clone, Copy, Debug, PartialEq, Eq)]
 pub enum Refusal {
     // the buffer's length is odd, 0, or too large
     Length,
@@ -35,11 +35,23 @@ pub enum Refusal {
     Full,
 }
 
+// A number that no refusal has.
+#[derive(Clone, Copy, Debug, PartialEq, Eq)]
+pub struct Unlisted(pub u32);
+
 impl Refusal {
     pub fn number(self) -> u32
         ensures { result ≡ number_of self }
     {
-        match self {
+        u32::from(self)
+    }
+}
+
+impl From<Refusal> for u32 {
+    ghost from_gives = { λ refusal number. number ≡ number_of refusal };
+
+    fn from(refusal: Refusal) -> u32 {
+        match refusal {
             Refusal::Length => 1,
             Refusal::NotFinite => 2,
             Refusal::Order => 3,
@@ -58,15 +70,35 @@ impl Refusal {
     }
 }
 
+impl TryFrom<u32> for Refusal {
+    type Error = Unlisted;
+
+    ghost try_from_gives = { ReadsNumber };
+
+    fn try_from(number: u32) -> Result<Refusal, Unlisted> {
+        match number {
+            1 => Ok(Refusal::Length),
+            2 => Ok(Refusal::NotFinite),
+            3 => Ok(Refusal::Order),
+            4 => Ok(Refusal::Zero),
+            5 => Ok(Refusal::Series),
+            6 => Ok(Refusal::Start),
+            7 => Ok(Refusal::Climb),
+            8 => Ok(Refusal::Overflow),
+            9 => Ok(Refusal::Malformed),
+            10 => Ok(Refusal::NotPositive),
+            11 => Ok(Refusal::Sign),
+            12 => Ok(Refusal::Size),
+            13 => Ok(Refusal::Steps),
+            15 => Ok(Refusal::Full),
+            _ => Err(Unlisted(number)),
+        }
+    }
+}
+
 // Whether a refusal has this number: whoever reads an answer line asks.
 pub fn is_listed(number: u32) -> bool
     ensures { result ≡ is_listed number }
 {
-    if number == 0 {
-        return false;
-    }
-    if number <= 13 {
-        return true;
-    }
-    number == 15
+    Refusal::try_from(number).is_ok()
 }

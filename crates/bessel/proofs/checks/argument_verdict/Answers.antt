@@ -1,15 +1,19 @@
 -- `bessel::checks::argument_verdict` meets its contract: the shared parts of the list, one behind the other. Assumes nothing.
-use Rattle.call.specs.Checks.{verdict_of}
-use Rattle.call.proofs.FirstFacts.{verdict-append, stays}
+use Rattle.std.proofs.Common.{rules}
+use Rattle.call.proofs.FirstFacts.{verdict-joined}
 use Rattle.bessel.specs.Checks.{argument_checks}
 use Rattle.bessel.proofs.checks.argument_verdict.Goals as goal
 
-pub returns-in-Admitted : goal.returns-in-Admitted
-unfolding verdict_of argument_checks
-returns-in-Admitted c = rw (verdict-append, verdict-append) (cc)
+pub returns-in_err-length_checked : goal.returns-in_err-length_checked
+unfolding argument_checks
+returns-in_err-length_checked c = rw (verdict-joined, ← c.length_checked.ensures, c.in_err-length_checked.was) (search rules)
 
-pub returns-in-Refused : goal.returns-in-Refused
-unfolding verdict_of argument_checks
-returns-in-Refused c =
-    let f = c in
-    rw (verdict-append, verdict-append, ← f.length_checked.ensures, ← f.finite_checked-verdict.ensures, c.in-Refused.is, stays)
+pub returns-in_err-finite_checked : goal.returns-in_err-finite_checked
+unfolding argument_checks
+returns-in_err-finite_checked c =
+    rw (verdict-joined, verdict-joined, ← c.length_checked.ensures, ← c.finite_checked.ensures, c.in_ok-length_checked.was, c.in_err-finite_checked.was) (search rules)
+
+pub returns : goal.returns
+unfolding argument_checks
+returns c =
+    rw (verdict-joined, verdict-joined, ← c.length_checked.ensures, ← c.finite_checked.ensures, c.in_ok-length_checked.was, c.in_ok-finite_checked.was) c.limits_checked.ensures

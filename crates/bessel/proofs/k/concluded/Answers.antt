@@ -17,14 +17,14 @@ signed-requires c =
     omega (arith, few)
 
 pub returns-in-Ok : goal.returns-in-Ok
-unfolding concluded_of kernel_steps
+unfolding concluded_of kernel_steps answered_of
 returns-in-Ok c =
     let j = c in
     let a = j in
     let s = a in
     let o = s in
     let n = o.in-Ok.c in
-    let e = judged-counts _ n _ _ _ s.signed.ensures (a.answered.ensures ∙ ap (λ (k : ℤ). answered_of k n.longest_sum n.rungs n.backward) (to_z-of_z {w = w32} (record { sfits = s.signed.type_inv }))) in
+    let e = judged-counts _ n _ _ _ s.signed.ensures (ap (λ (k : ℤ). answered_of k n.longest_sum n.rungs n.backward) (to_z-of_z {w = w32} (record { sfits = s.signed.type_inv }))) in
     rw o.in-Ok.is (j.judge.ensures.0 ∙ ap (λ (o : Outcome). o.answer) e, j.judge.ensures.1 ∙ ap (λ (o : Outcome). o.cells) e)
 
 pub returns-in-Err : goal.returns-in-Err

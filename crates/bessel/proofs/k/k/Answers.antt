@@ -8,18 +8,18 @@ use Rattle.bessel.proofs.k.k.Goals as goal
 pub by_kernel-requires : goal.by_kernel-requires
 by_kernel-requires c =
     let d = c in
-    k-ready _ _ _ _ _ d.prepare-a.ensures (sym d.k_verdict-verdict.ensures ∙ c.in-Admitted.is)
+    k-ready _ _ _ _ _ d.prepare-a.ensures (sym d.k_verdict-verdict.ensures ∙ c.in-Ok.is)
 
-pub returns-in-Admitted : goal.returns-in-Admitted
+pub returns-in-Ok : goal.returns-in-Ok
 unfolding k_outcome call_outcome outcome_by
-returns-in-Admitted c =
+returns-in-Ok c =
     let b = c in
     let d = b in
-    rw (← d.prepare-a.ensures, ← d.k_verdict-verdict.ensures, b.in-Admitted.is) b.by_kernel.ensures
+    rw (← d.prepare-a.ensures, ← d.k_verdict-verdict.ensures, b.in-Ok.is) b.by_kernel.ensures
 
-pub returns-in-Refused : goal.returns-in-Refused
+pub returns-in-Err : goal.returns-in-Err
 unfolding k_outcome call_outcome outcome_by
-returns-in-Refused c =
+returns-in-Err c =
     let b = c in
     let d = b in
-    rw (← d.prepare-a.ensures, ← d.k_verdict-verdict.ensures, b.in-Refused.is) b.refuse.ensures
+    rw (← d.prepare-a.ensures, ← d.k_verdict-verdict.ensures, b.in-Err.is) b.refuse.ensures

@@ -28,11 +28,11 @@ overflow_mul-visit c =
     omega arith
 
 pub returns : goal.returns
-unfolding visited_by
+unfolding visited_by answered_of
 returns c =
     let j = c in
     let a = j in
     let d = a in
     let s = d in
-    let e = judged-visit (length s.args.out.now) _ _ _ _ _ _ d.power_series-visit.auto.out d.power_series-visit.ensures.0 d.power_series-visit.ensures.1 a.signed.ensures (a.answered-answer.ensures ∙ ap (λ (k : ℤ). answered_of k d.power_series-visit.result.longest_sum d.power_series-visit.result.rungs 0) (to_z-of_z {w = w32} (record { sfits = a.signed.type_inv }))) in
+    let e = judged-visit (length s.args.out.now) _ _ _ _ _ _ d.power_series-visit.auto.out d.power_series-visit.ensures.0 d.power_series-visit.ensures.1 a.signed.ensures (ap (λ (k : ℤ). answered_of k d.power_series-visit.result.longest_sum d.power_series-visit.result.rungs 0) (to_z-of_z {w = w32} (record { sfits = a.signed.type_inv }))) in
     (j.judge.ensures.0 ∙ ap (λ (o : Outcome). o.answer) e, j.judge.ensures.1 ∙ ap (λ (o : Outcome). o.cells) e)

@@ -8,18 +8,18 @@ use Rattle.bessel.proofs.series.series_call.Goals as goal
 pub by_series-requires : goal.by_series-requires
 by_series-requires c =
     let d = c in
-    series-ready _ _ (sym d.series_verdict-verdict.ensures ∙ c.in-Admitted.is)
+    series-ready _ _ (sym d.series_verdict-verdict.ensures ∙ c.in-Ok.is)
 
-pub returns-in-Admitted : goal.returns-in-Admitted
+pub returns-in-Ok : goal.returns-in-Ok
 unfolding series_outcome call_outcome outcome_by
-returns-in-Admitted c =
+returns-in-Ok c =
     let b = c in
     let d = b in
-    rw (← d.prepare-a.ensures, ← d.series_verdict-verdict.ensures, b.in-Admitted.is) b.by_series.ensures
+    rw (← d.prepare-a.ensures, ← d.series_verdict-verdict.ensures, b.in-Ok.is) b.by_series.ensures
 
-pub returns-in-Refused : goal.returns-in-Refused
+pub returns-in-Err : goal.returns-in-Err
 unfolding series_outcome call_outcome outcome_by
-returns-in-Refused c =
+returns-in-Err c =
     let b = c in
     let d = b in
-    rw (← d.prepare-a.ensures, ← d.series_verdict-verdict.ensures, b.in-Refused.is) b.refuse.ensures
+    rw (← d.prepare-a.ensures, ← d.series_verdict-verdict.ensures, b.in-Err.is) b.refuse.ensures

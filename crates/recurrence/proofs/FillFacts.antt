@@ -1,7 +1,7 @@
 -- The climb that fills: one rung more, two fills in a row; its climb is the plain one, and its cells are two a rung. Part of it, in the buffer that it
 -- fills, as a state keeps it and off its scale: its start, one rung more, two parts in a row, the whole. Assumes nothing.
 use mathlib.Core.Path.{◌≡◌, refl, sym, ap, ◌∙◌, subst}
-use mathlib.Core.Bool.{false}
+use mathlib.Core.Bool.{Bool, true, false}
 use mathlib.Core.List.{List, [], ◌∷◌, ◌++◌, append_assoc, append-nil}
 use Prim.Native.Nat.{ℕ, zero, suc, ◌+◌, ◌-◌, ◌*◌, ◌/◌, ◌≤◌, ◌<◌}
 use native.Mathlib.Nat.{add-zero, add-suc, add_assoc}
@@ -20,7 +20,7 @@ use Rattle.recurrence.specs.State.{reciprocal_of, limit_of}
 use Rattle.recurrence.specs.Rung.{factor_of, next_of, rung_of}
 use Rattle.recurrence.specs.Climb.{never, climb_from}
 use Rattle.recurrence.specs.Fill.{Filled, fill_step, fill_from}
-use Rattle.recurrence.specs.shapes.Stretch.{off_scale, PartPut, PartHeld, PartFilled, Written}
+use Rattle.recurrence.specs.shapes.Stretch.{off_scale, Partway, PartPut, PartHeld, PartFilled, PartIf, Written}
 use Rattle.recurrence.specs.declared.state.OverflowState.{OverflowState}
 use Rattle.recurrence.specs.declared.state.Climb.{Climb}
 use Rattle.recurrence.specs.declared.state.Rung.{Rung}
@@ -28,7 +28,7 @@ use Rattle.std.specs.declared.option.Option.TheVariants as option
 use Rattle.recurrence.specs.declared.course.Course.{Course}
 use Rattle.recurrence.proofs.ClimbFacts.{plain-last, climb-out, climb-last, climb-again, rung-counted}
 use Rattle.recurrence.proofs.OffScaleFacts.{Spreads, scale-spreads, scale-length, scale-pair}
-use Rattle.recurrence.proofs.StretchFacts.{held-value, held-rung, partway_start, partway-rung, partway-again}
+use Rattle.recurrence.proofs.StretchFacts.{Standing, held-value, held-rung, partway_start, partway-rung, partway-again}
 
 -- a seam, and another from there on
 seam-again : {A : Type 0} {d p out out' : List A} {n m : ℕ} (q : List A) → n ≤ m → Seam d p n out → Seam out (take n out ++ q) m out' → Seam d (p ++ q) m out'
@@ -315,3 +315,11 @@ module _ (g : Course) (start : Climb) (from place : ℕ) (before : List Float) w
   -- what a turn gives back
   pub turn-length : {i at : ℕ} {c : Climb} {out : List Float} → Turning i c at out → length out ≡ length before
   turn-length s = s.filled.cells.same
+
+  -- its part, and its cells where they are asked for
+  pub turn-if : {writes : Bool} {i at : ℕ} {c : Climb} {out : List Float} (d : Climb) → d ≡ c → Standing g.two_over_z g.base_order from (from + 4) start i c → (writes ≡ true → Turning i c at out)
+      → PartIf writes g.two_over_z g.base_order from (from + 4) start place before d out
+  turn-if {writes} {i} {at} {c} {out} d e p h = record {
+    part = subst (λ (k : Climb). Partway g.two_over_z g.base_order from (from + 4) start k) (sym e) p.part;
+    held = λ t. subst (λ (k : Climb). PartHeld g.two_over_z g.base_order from (from + 4) start place before k out) (sym e) (h t).filled;
+  }

@@ -10,4 +10,5 @@ pub mod off_scale;
 pub mod rung;
 pub mod search;
 pub mod state;
+pub mod stretch;
 pub mod trial;

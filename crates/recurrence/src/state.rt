@@ -1,7 +1,7 @@
 // The three states of scale of a climb: values near underflow are kept 2^52 times too large, values near overflow as much too small.
 // From src/amos/limits.rs, OverflowState; the words are those of docs/SCOPE.md, The climb.
 // Promised: each state's scale, reciprocal, boundary and limit are those of specs/State.antt.
-ghost use Rattle.std.specs.Prelude.{◌≡◌};
+ghost use Rattle.std.specs.Prelude.{◌≡◌, ◌+◌, ◌<◌, ◌^◌};
 ghost use Rattle.recurrence.specs.State.{scale_of, reciprocal_of, boundary_of, limit_of, moved_on};
 
 use complex::number::Complex;
@@ -85,6 +85,21 @@ impl OverflowState {
             OverflowState::NearUnder => OverflowState::None,
             OverflowState::None => OverflowState::NearOver,
             OverflowState::NearOver => OverflowState::NearOver,
+        }
+    }
+}
+
+impl Climb {
+    // two neighbouring values a few rungs on, in the same state
+    pub fn at(self, older: Complex, newer: Complex, rungs: u32) -> Climb
+        requires { self.rungs + rungs < 2 ^ 32 }
+        ensures { result ≡ record { older = older; newer = newer; state = self.state; rungs = self.rungs + rungs } }
+    {
+        Climb {
+            older,
+            newer,
+            state: self.state,
+            rungs: self.rungs + rungs,
         }
     }
 }

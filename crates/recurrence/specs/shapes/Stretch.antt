@@ -1,6 +1,6 @@
 -- How it is computed, not what: a part of a climb, which stops before a rung that may move the state of scale. What the parts promise of the climb
 -- (specs/Climb.antt) and of its cells (specs/Fill.antt). Definitions only.
-use Rattle.std.specs.Prelude.{ℕ, ◌+◌, ◌-◌, ◌*◌, ◌≤◌, ◌≡◌, List, ◌++◌, map, take, set, Float}
+use Rattle.std.specs.Prelude.{ℕ, ◌+◌, ◌-◌, ◌*◌, ◌≤◌, ◌≡◌, Bool, true, List, ◌++◌, map, take, set, Float}
 use Rattle.std.specs.Float.{binary64}
 use Rattle.std.specs.Float.Ieee.{mul}
 use Rattle.laws.proofs.Seam.{Seam}
@@ -59,3 +59,13 @@ put_if option.None at out = out
 pub record Written (g : Course) (i : ℕ) (older newer : Complex) (a : Option Complex) (at : ℕ) (before out : List Float) : Type 0 where
   pub held : a ≡ held_of g.most (next_of (factor_of g.two_over_z g.base_order i) older newer)
   pub put : out ≡ put_if a at before
+
+-- where the values are asked for, in their cells too
+pub record PartIf (writes : Bool) (two_over_z : Complex) (base_order : Float) (from to : ℕ) (start : Climb) (place : ℕ) (before : List Float) (c : Climb)
+    (out : List Float) : Type 0 where
+  pub part : Partway two_over_z base_order from to start c
+  pub held : writes ≡ true → PartHeld two_over_z base_order from to start place before c out
+
+pub record WrittenIf (writes : Bool) (g : Course) (i : ℕ) (older newer : Complex) (a : Option Complex) (at : ℕ) (before out : List Float) : Type 0 where
+  pub next : a ≡ held_of g.most (next_of (factor_of g.two_over_z g.base_order i) older newer)
+  pub put : writes ≡ true → Written g i older newer a at before out

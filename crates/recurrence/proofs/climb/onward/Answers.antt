@@ -14,5 +14,5 @@ returns-then-i-to c =
     let s = t in
     let e = ap (λ (q : Rung). q.climb) r.rung.ensures in
     let n = ap (λ (k : Climb). k.rungs) e ∙ rung-counted _ _ _ s.stretch-c.result in
-    let m = s.stretch-c.ensures.counted in
-    (partway-rung _ _ _ r.rung.result.climb refl t.if-i-to.true e s.stretch-c.ensures, omega arith)
+    let m = s.stretch-c.ensures.part.counted in
+    (partway-rung _ _ _ r.rung.result.climb refl t.if-i-to.true e s.stretch-c.ensures.part, omega arith)

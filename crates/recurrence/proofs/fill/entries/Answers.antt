@@ -1,5 +1,5 @@
 -- `recurrence::fill::entries` meets its contract: what the stretch has put comes off the scale. Assumes nothing.
-use mathlib.Core.Path.{◌≡◌}
+use mathlib.Core.Path.{◌≡◌, refl}
 use Prim.Native.Nat.{ℕ, ◌+◌, ◌*◌}
 use native.Mathlib.Omega.{arith}
 use Rattle.recurrence.proofs.FillFacts.{filled_off}
@@ -12,4 +12,4 @@ pub returns : goal.returns
 returns c =
     let t = c in
     let s = t in
-    filled_off _ _ _ (twice _ _) s.requires.0 s.stretch-c.ensures _ t.take_off.ensures
+    filled_off _ _ _ (twice _ _) s.requires.0 (s.stretch-c.ensures.held refl) _ t.take_off.ensures

@@ -14,7 +14,7 @@ use crate::checks::k_verdict;
 use crate::outcome::{judge, refuse};
 use call::answer::{Answer, Counts, signed};
 use refusal::refusal::Refusal;
-use right_half_plane::kernel::{self, k_right_half_plane};
+use right_half_plane::kernel;
 
 // Every entry of an answer is finished; a refusal has left the cells as they were, and they are filled here.
 fn concluded(ending: Result<kernel::Counts, Refusal>, out: &mut [f64]) -> Answer
@@ -46,7 +46,7 @@ fn by_kernel(scaled: bool, a: Arguments, out: &mut [f64]) -> Answer
         × (out.new ≡ (concluded_of (length out.old) (k_steps scaled a (length out.old))).cells) }
 {
     let z = a.z;
-    let ending = k_right_half_plane(scaled, a.order, z, a.modulus, out);
+    let ending = kernel::k_right_half_plane(scaled, a.order, z, a.modulus, out);
     concluded(ending, out)
 }
 

@@ -14,10 +14,10 @@ use Rattle.roots.specs.Sqrt.{sqrt_of}
 use Rattle.refusal.specs.Number.{number_of}
 use Rattle.refusal.specs.declared.refusal.Refusal.{Refusal}
 use Rattle.refusal.specs.declared.refusal.Refusal.TheVariants as refusals
-use Rattle.recurrence.specs.Trial.{failed_trial}
+use Rattle.recurrence.specs.Trial.{failed_trial, kept, value_of}
 use Rattle.recurrence.specs.Search.{is_found, search_at}
 use Rattle.recurrence.specs.declared.search.Search.{Search}
-use Rattle.recurrence.specs.declared.search.Rule.TheVariants.{OutOfUnderflow}
+use Rattle.recurrence.specs.Rule.{OutOfUnderflow}
 use Rattle.recurrence.specs.declared.state.OverflowState.TheVariants.{NearUnder}
 use Rattle.recurrence.specs.declared.state.Climb.{Climb}
 use Rattle.recurrence.proofs.SearchFacts.{search-ends}
@@ -97,10 +97,10 @@ module _ (g : Ground) (s : Seeded) where
 
   settled-exactly : (r : Search) → stops (settled_of r) ≡ (no_neighbours r || a_zero_pair r)
   unfolding settled_of neighbours_of is_found no_neighbours a_zero_pair
-  settled-exactly r = go (r.before.kept && r.latest.kept) (is_zero_pair r.before.value || is_zero_pair r.latest.value)
+  settled-exactly r = go (kept r.before && kept r.latest) (is_zero_pair (value_of r.before) || is_zero_pair (value_of r.latest))
     where
       n : Result Resumed Refusal
-      n = Ok (record { climb = record { older = r.before.value; newer = r.latest.value; state = NearUnder; rungs = r.rungs }; next_offset = r.rungs + 2 })
+      n = Ok (record { climb = record { older = value_of r.before; newer = value_of r.latest; state = NearUnder; rungs = r.rungs }; next_offset = r.rungs + 2 })
 
       go : (f z : Bool) → stops (cond f (cond z (Err refusals.Climb) n) (Err refusals.Climb)) ≡ (not f || z)
       go true true = refl

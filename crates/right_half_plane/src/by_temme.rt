@@ -9,7 +9,7 @@ use crate::seeds::{Seeded, Seeds};
 use complex::number::Complex;
 use machine::constants::Machine;
 use machine::magnitude::magnitude;
-use recurrence::state::{OverflowState, scale};
+use recurrence::state::OverflowState;
 use temme::seeds::Temme;
 
 // a large sinh μ over the fraction tells that the climb may overflow
@@ -70,7 +70,7 @@ impl Ground {
         }
         let state = growth_state(self.order, t.shinc);
         Seeded {
-            seeds: self.temme_pair(growth, scale(state), t),
+            seeds: self.temme_pair(growth, state.scale(), t),
             state,
             underflow: false,
             terms,

@@ -10,6 +10,7 @@ use complex::number::Complex;
 use rounding::round::round;
 use temme::difference::fraction_square;
 
+// `scaled`, which goes with it into the seed stage, is no field of it: ground_of of specs/Ground.antt, which the theorems name, is without it.
 #[derive(Clone, Copy)]
 pub struct Ground {
     pub z: Complex,

@@ -98,7 +98,6 @@ impl Admitted {
     }
 }
 
-#[tactic(auto, unfolding(crate::specs::Kernel::finished_kernel))]
 fn finished(s: Seeded, value: Complex, out: &mut [f64]) -> Counts
     requires { length out.old ≡ 2 }
     ensures { (Ok result ≡ (finished_kernel s value).ending) × (out.new ≡ (finished_kernel s value).cells) }

@@ -7,7 +7,7 @@ use crate::admitted::Admitted;
 use complex::number::Complex;
 use machine::constants::Machine;
 use recurrence::first::first_orders;
-use recurrence::state::{Climb, OverflowState, reciprocal};
+use recurrence::state::{Climb, OverflowState};
 
 #[derive(Clone, Copy)]
 pub struct Lead {
@@ -22,7 +22,7 @@ pub struct Lead {
 pub fn on_scale_lead(c: Climb) -> Lead
     ensures { result ≡ on_scale_lead c }
 {
-    let factor = reciprocal(c.state);
+    let factor = c.state.reciprocal();
     Lead {
         zeros: 0,
         first: c.older.times_real(factor),

@@ -1,5 +1,6 @@
 // From the seeds to the first order wanted, on scale or with underflow still marked. From src/amos/right_half_plane.rs, k_right_half_plane (ZBKNU).
-// Promised: reach_of of specs/Reach.antt. Each rung raises the call's own number.
+// Promised: reach_of of specs/Reach.antt. Each rung raises the call's own number. `underflow` and the climb come apart, as reach_of and the
+// theorem reach-arrives have them.
 ghost use Rattle.std.specs.Prelude.{◌≡◌, ◌≤◌};
 ghost use Rattle.right_half_plane.specs.Reach.{steps_of, wanted_of, resting_of, climbed_of, begun_of, reach_of};
 

@@ -6,9 +6,8 @@ ghost use Rattle.std.specs.Prelude.{◌≡◌, ◌≤◌};
 ghost use Rattle.right_half_plane.specs.Recover.{is_zero_pair, settled_of, recover_of};
 
 use complex::number::Complex;
-use recurrence::search::{Rule, Search, is_found, search_at, search_from};
+use recurrence::search::{Search, lowers_out_of_underflow, search_at, search_from};
 use recurrence::state::{Climb, OverflowState};
-use recurrence::trial::failed;
 use refusal::refusal::Refusal;
 
 // Two neighbours on the scale of NearUnder, and the offset at which the plain climb resumes.
@@ -26,14 +25,15 @@ fn is_zero(w: Complex) -> bool
 }
 
 // What was found is the pair, unless a zero is among it.
-#[tactic(auto, unfolding(crate::specs::Recover::settled_of, crate::specs::Recover::neighbours_of))]
+#[tactic(auto, unfolding(crate::specs::Recover::settled_of, crate::specs::Recover::neighbours_of, recurrence::specs::Search::is_found))]
 fn settled(s: Search) -> Result<Resumed, Refusal>
     requires { s.rungs ≤ 1000 }
     ensures { result ≡ settled_of s }
 {
-    let older = s.before.value;
-    let newer = s.latest.value;
-    if !is_found(s) || is_zero(older) || is_zero(newer) {
+    let (Some(older), Some(newer)) = (s.before, s.latest) else {
+        return Err(Refusal::Climb);
+    };
+    if is_zero(older) || is_zero(newer) {
         return Err(Refusal::Climb);
     }
     Ok(Resumed {
@@ -47,6 +47,7 @@ fn settled(s: Search) -> Result<Resumed, Refusal>
     })
 }
 
+// The numbers come apart, as recover_of and the theorem recover-resumes have them.
 #[tactic(auto, unfolding(crate::specs::Recover::recover_of))]
 pub fn recover(
     fraction: f64,
@@ -59,6 +60,6 @@ pub fn recover(
     requires { steps ≤ 1000 }
     ensures { result ≡ recover_of fraction two_over_z z steps first second }
 {
-    let start = search_at(z, first, second, failed(), failed());
-    settled(search_from(Rule::OutOfUnderflow, fraction, two_over_z, steps, start))
+    let start = search_at(z, first, second, None, None);
+    settled(search_from(lowers_out_of_underflow, fraction, two_over_z, steps, start))
 }

@@ -20,7 +20,8 @@ pub enum Seeds {
     Pair(Complex, Complex),
 }
 
-// Beside them the state of their scale, whether they stand without e^-z, the terms of Temme's sum and Miller's backward steps.
+// Beside them the state of their scale, whether they stand without e^-z, the terms of Temme's sum and Miller's backward steps. That they stand without it
+// is told by the state NearUnder too; the field stays, since climb_taken of specs/Refusals.antt, which climb-exactly rests on, reads it.
 #[derive(Clone, Copy)]
 pub struct Seeded {
     pub seeds: Seeds,
@@ -30,7 +31,8 @@ pub struct Seeded {
     pub backward: u32,
 }
 
-// Whether the modulus is at most 2. The parts are there before the modulus is, and mostly tell.
+// Whether the modulus is at most 2. The parts are there before the modulus is, and mostly tell. That the modulus is that of z is asked for by clauses,
+// here and in `seed`, and is no fact of Ground: the theorems about ground_of take any two numbers.
 fn within_two(z: Complex, modulus: f64) -> bool
     requires { modulus ≡ modulus_of z }
     ensures { result ≡ le modulus two }

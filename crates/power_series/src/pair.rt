@@ -55,8 +55,7 @@ fn rung(g: Setting, k: u32, s: Descent) -> Descent
     unmarked(backward(g, k, s.y_k_plus_2, s.y_k_plus_1), counts, s)
 }
 
-// Two orders at a time, so that a value stays in the registers in which it was worked out. How many orders are left is the index of both
-// entries: `for pair in (0..most / 2).rev()` would work out `pair * 2 + 1` and `pair * 2` from another one.
+// Two orders at a time, so that a value stays in the registers in which it was worked out.
 fn two_by_two(g: Setting, most: usize, settled: Descent, out: &mut [f64]) -> Standing
     requires { (length out.old % 2 ≡ 0)
         × (length out.old ≤ 1024)
@@ -65,17 +64,15 @@ fn two_by_two(g: Setting, most: usize, settled: Descent, out: &mut [f64]) -> Sta
     ensures { (result ≡ (walk_from g (length out.old / 2) most settled (drop (most * 2) out.old)).standing)
         × (drop (result.left * 2) out.new ≡ (walk_from g (length out.old / 2) most settled (drop (most * 2) out.old)).cells) }
 {
-    let mut left = most;
     let mut state = settled;
-    while left > 1 {
-        left -= 1;
-        let s = rung(g, left as u32, state);
-        put(out, left, s.above);
-        left -= 1;
-        state = rung(g, left as u32, s);
-        put(out, left, state.above);
+    for pair in (0..most / 2).rev() {
+        let k = pair * 2;
+        let s = rung(g, (k + 1) as u32, state);
+        put(out, k + 1, s.above);
+        state = rung(g, k as u32, s);
+        put(out, k, state.above);
     }
-    Standing { left, state }
+    Standing { left: 0, state }
 }
 
 // An odd order goes first, by itself.

@@ -40,23 +40,21 @@ pub fn put(out: &mut [f64], k: usize, entry: Complex)
     out[k * 2] = entry.re;
 }
 
-// How many orders are left is part of the answer: `for left in (0..n).rev()` would return `left + 1` where the visit stops, and 0 at its end.
 fn descend(g: Setting, out: &mut [f64]) -> Standing
     requires { (length out.old % 2 ≡ 0) × (length out.old ≤ 1024) }
     ensures { (result ≡ (walk_of g (length out.old / 2)).standing)
         × (drop (result.left * 2) out.new ≡ (walk_of g (length out.old / 2)).cells) }
 {
-    let mut left = out.len() / 2;
+    let n = out.len() / 2;
     let mut state = start();
-    while left > 0 {
+    for k in (0..n).rev() {
         if state.stopped {
-            return Standing { left, state };
+            return Standing { left: k + 1, state };
         }
-        left -= 1;
-        state = step(g, left as u32, state);
-        put(out, left, state.above);
+        state = step(g, k as u32, state);
+        put(out, k, state.above);
     }
-    Standing { left, state }
+    Standing { left: 0, state }
 }
 
 // The record of a visit that ended there, and the fixed not-a-number below it.

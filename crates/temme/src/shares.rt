@@ -18,6 +18,7 @@ fn is_whole(fraction: f64, fraction_square: f64) -> bool
     fraction == 0.0 && fraction_square == 0.0
 }
 
+// Each entry stands beside its term, which an array would hide: `if 1 <= terms && terms <= 18 { return SHARES[terms as usize - 1]; }`.
 fn share(terms: u32) -> f64
     ensures { result ≡ share_of terms }
 {

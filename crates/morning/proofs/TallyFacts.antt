@@ -11,8 +11,8 @@ use lib.Seq.{take_all}
 use Rattle.splitting.specs.Cut.{shortened}
 use Rattle.splitting.specs.Count.{counted}
 use Rattle.splitting.proofs.CountFacts.{adds_none, adds_again}
-use Rattle.frame.specs.declared.reading.Reading.{Reading}
-use Rattle.frame.specs.declared.reading.Reading.TheVariants.{Readable, Unreadable}
+use Rattle.std.specs.Prelude.{Option, None, Some}
+use Rattle.frame.specs.declared.reading.Record.{Record}
 use Rattle.frame.specs.Layout.{byte_width, number_at, record_length, longest_pairs, pair_width}
 use Rattle.frame.specs.Digits.{are_digits, field_of}
 use Rattle.frame.specs.Reading.{record_at, rest_inside, layout_kept, reading_of}
@@ -70,17 +70,17 @@ rest-beyond number rest h = go (eqb number 0)
     go true = ap (λ (c : Bool). ltb 0 rest && (c && eqb (rest % pair_width) 0)) (lt-leb rest longest_pairs h) ∙ none (ltb 0 rest) (eqb (rest % pair_width) 0)
     go false = ne_eqb rest 0 (λ e. omega arith)
 
-none_kept : (a b : Bool) (r : Reading) → cond (a && (b && false)) r Unreadable ≡ Unreadable
+none_kept : (a b : Bool) (r : Option Record) → cond (a && (b && false)) r None ≡ None
 none_kept true true r = refl
 none_kept true false r = refl
 none_kept false b r = refl
 
-long-unread : (line : List ℕ) → most_held ≤ length line → reading_of line ≡ Unreadable
+long-unread : (line : List ℕ) → most_held ≤ length line → reading_of line ≡ None
 unfolding reading_of layout_kept
 long-unread line h =
-    ap (λ (c : Bool). cond (leb record_length (length line) && (are_digits line && c)) (Readable (record_at line)) Unreadable)
+    ap (λ (c : Bool). cond (leb record_length (length line) && (are_digits line && c)) (Some (record_at line)) None)
     (rest-beyond (field_of number_at byte_width line) (length line - record_length) (omega arith))
-    ∙ none_kept (leb record_length (length line)) (are_digits line) (Readable (record_at line))
+    ∙ none_kept (leb record_length (length line)) (are_digits line) (Some (record_at line))
 
 reading-kept : (line : List ℕ) → reading_of (take most_held line) ≡ reading_of line
 reading-kept line = go (ltb (length line) most_held) refl
@@ -97,14 +97,14 @@ module _ (page line : List ℕ) where
   unfolding said_by
   number-kept =
       line-number page (take most_held line)
-      ∙ ap (λ (s : Reading). join_number page (one_page (said_in s))) (reading-kept line)
+      ∙ ap (λ (s : Option Record). join_number page (one_page (said_in s))) (reading-kept line)
       ∙ sym (line-number page line)
 
   page-kept : line_page page (take most_held line) ≡ line_page page line
   unfolding said_by
   page-kept =
       line-page page (take most_held line)
-      ∙ ap (λ (s : Reading). join_page page (one_page (said_in s))) (reading-kept line)
+      ∙ ap (λ (s : Option Record). join_page page (one_page (said_in s))) (reading-kept line)
       ∙ sym (line-page page line)
 
 lines-kept : (page : List ℕ) (ls : List (List ℕ)) → lines_page page (shortened most_held ls) ≡ lines_page page ls

@@ -7,8 +7,9 @@ ghost use Rattle.splitting.specs.declared.state.State.TheVariants.{Going};
 ghost use Rattle.morning.specs.Turn.{Settled, Passed, PassedTo, AtEnd, TakenRead, Reached, Served};
 
 use crate::ahead::digits_ahead;
-use crate::tally::{tally, tally_digits};
+use crate::tally::tally;
 use crate::turn::Turn;
+use page::adding::{add_digits, add_line};
 use splitting::cut::Line;
 use splitting::serving::Server;
 use splitting::state::State;
@@ -42,7 +43,7 @@ impl Morning {
             × (self.new.turn.state ≡ self.old.turn.state) }
     {
         if ended {
-            self.turn.refused = tally(self.line.held(), &mut self.page, self.turn.refused);
+            self.turn.refused = tally(self.turn.refused, add_line(&mut self.page, self.line.held()));
             self.line.clear();
         }
     }
@@ -72,7 +73,7 @@ impl Morning {
     {
         if self.line.is_empty() {
             if let Some(n) = digits_ahead(chunk, at) {
-                self.turn.refused = tally_digits(&chunk[at..at + n], &mut self.page, self.turn.refused);
+                self.turn.refused = tally(self.turn.refused, add_digits(&mut self.page, &chunk[at..at + n]));
                 return at + n + 1;
             }
         }
@@ -95,7 +96,7 @@ impl Morning {
         ensures { AtEnd self.old.line self.old.page self.old.turn.refused self.new.page self.new.turn }
     {
         if !self.line.is_empty() {
-            self.turn.refused = tally(self.line.held(), &mut self.page, self.turn.refused);
+            self.turn.refused = tally(self.turn.refused, add_line(&mut self.page, self.line.held()));
         }
         self.turn.state = State::Whole;
     }

@@ -37,8 +37,8 @@ module _ (line d d' : List ℕ) (n : ℕ) (needed : n ≡ (line_swept line).need
   pub frames-room : n ≤ length d
   frames-room = omega (arith, needed-is line, bytes_most line)
 
-  pub frames-are : d' ≡ offered (line_bytes line) d → take (n - 0) d' ≡ line_bytes line
+  pub frames-are : d' ≡ offered (line_bytes line) d → take n d' ≡ line_bytes line
   unfolding over
   frames-are e =
-      ap (take (n - 0)) (e ∙ offered-room (line_bytes line) d (omega (arith, bytes_most line)))
-      ∙ take_at (line_bytes line) (drop (0 + length (line_bytes line)) d) (n - 0) (omega (arith, needed-is line))
+      ap (take n) (e ∙ offered-room (line_bytes line) d (omega (arith, bytes_most line)))
+      ∙ take_at (line_bytes line) (drop (0 + length (line_bytes line)) d) n (omega (arith, needed-is line))

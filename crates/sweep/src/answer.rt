@@ -1,6 +1,7 @@
 // One request: its frames handed to the writer, or its refusal told. No contract of the kit says what a write was given, so `send` and `say`
 // demand that they are given exactly what the line comes to, and what is counted was written. Promised: AfterLine of specs/Turn.antt.
 ghost use Rattle.std.specs.Prelude.{◌≡◌, ◌+◌, ◌≤◌, ◌<◌, length};
+ghost use Rattle.refusal.specs.Number.{number_of};
 ghost use Rattle.splitting.specs.Count.{counted};
 ghost use Rattle.sweeping.specs.Line.{line_swept, line_bytes};
 ghost use Rattle.sweep.specs.Text.{Told};
@@ -8,6 +9,7 @@ ghost use Rattle.sweep.specs.Turn.{most_room, AfterLine};
 
 use crate::text::refusal_text;
 use crate::turn::Turn;
+use refusal::refusal::Refusal;
 use splitting::count::count;
 use splitting::state::State;
 use splitting::telling::{STDERR_FILENO, STDOUT_FILENO};
@@ -30,11 +32,12 @@ fn say(text: &[u8], k: u64, before: u64, number: u32, line: &[u8]) -> bool
     io::write_all(STDERR_FILENO, text)
 }
 
-fn refuse(number: u32, line: &[u8], turn: Turn) -> Turn
-    requires { (number ≡ (line_swept line.now).number) × (0 < number) }
+fn refuse(refusal: Refusal, line: &[u8], turn: Turn) -> Turn
+    requires { number_of refusal ≡ (line_swept line.now).number }
     ensures { AfterLine line.now turn result }
 {
     let k = count(turn.requests, 1);
+    let number = refusal.number();
     let text = refusal_text(k, u64::from(number));
     if !say(text.as_bytes(), k, turn.requests, number, line) {
         return Turn {
@@ -72,10 +75,8 @@ pub fn answer(line: &[u8], out: &mut [u8], turn: Turn) -> Turn
     requires { most_room ≤ length out.old }
     ensures { AfterLine line.now turn result }
 {
-    let swept = sweep_line(line, out);
-    let needed = swept.needed as usize;
-    if swept.number == 0 {
-        return accept(&out[0..needed], line, turn);
+    match sweep_line(line, out) {
+        Ok(needed) => accept(&out[..needed as usize], line, turn),
+        Err(refusal) => refuse(refusal, line, turn),
     }
-    refuse(swept.number, line, turn)
 }

@@ -1,26 +1,29 @@
--- `sweep::answer::answer` meets its contract: by the number. Assumes nothing.
-use mathlib.Core.Path.{sym, ap, ◌∙◌}
+-- `sweep::answer::answer` meets its contract: by the result. Assumes nothing.
+use mathlib.Core.Path.{◌≡◌, sym, ap}
+use Prim.Native.Nat.{◌≤◌}
 use native.Mathlib.Omega.{arith}
-use Rattle.sweeping.specs.declared.sweep.Swept.{Swept}
+use lib.ListN.{length}
+use lib.Seq.{length-take-le}
+use Rattle.sweeping.specs.Sweep.{Swept}
 use Rattle.sweep.proofs.TextFacts.{frames-room, frames-are}
 use Rattle.sweep.proofs.answer.answer.Goals as goal
 
 pub slice_bounds-accept-end : goal.slice_bounds-accept-end
 slice_bounds-accept-end c =
-    let w = c.sweep_line-swept in
     let a = c.args in
-    omega (arith, frames-room a.line.now a.out.now a.out.now w.result.needed (ap (λ (x : Swept). x.needed) w.ensures.0) c.requires, w.auto.out)
+    omega (arith, frames-room a.line.now a.out.now a.out.now c.in-Ok.needed (ap (λ (x : Swept). x.needed) c.in-Ok.ensures.0) c.requires, c.sweep_line.auto.out)
+
+pub slice_bounds-accept-end-in-Ok : goal.slice_bounds-accept-end-in-Ok
+slice_bounds-accept-end-in-Ok c =
+    let a = c.args in
+    let room : c.in-Ok.needed ≤ length c.sweep_line.new.out =
+        omega (arith, frames-room a.line.now a.out.now a.out.now c.in-Ok.needed (ap (λ (x : Swept). x.needed) c.in-Ok.ensures.0) c.requires, c.sweep_line.auto.out) in
+    sym (length-take-le c.in-Ok.needed c.sweep_line.new.out room)
 
 pub accept-requires : goal.accept-requires
 accept-requires c =
-    let w = c in
-    let s = w in
-    let e = w.sweep_line-swept.ensures in (
-      frames-are s.args.line.now s.args.out.now w.sweep_line-swept.new.out w.sweep_line-swept.result.needed (ap (λ (x : Swept). x.needed) e.0) s.requires e.1,
-      sym (ap (λ (x : Swept). x.number) e.0) ∙ c.if-swept-eq0.true,
+    let a = c.args in
+    let e = c.in-Ok.ensures in (
+      frames-are a.line.now a.out.now c.sweep_line.new.out c.in-Ok.needed (ap (λ (x : Swept). x.needed) e.0) c.requires e.1,
+      sym (ap (λ (x : Swept). x.number) e.0),
     )
-
-pub refuse-requires : goal.refuse-requires
-refuse-requires c =
-    let w = c in
-    (ap (λ (x : Swept). x.number) w.sweep_line-swept.ensures.0, omega (arith, c.if-swept-eq0.false))

@@ -1,9 +1,8 @@
 -- Outcomes as the records that cross the C boundary. Definitions only.
-use Rattle.std.specs.Prelude.{ℕ, Bool, not, eqb, Float}
+use Rattle.std.specs.Prelude.{ℕ, Bool, not, eqb, Result, Ok, Err, Float}
 use Rattle.machine.specs.Constants.{not_a_number}
 use Rattle.refusal.specs.Number.{number_of}
-use Rattle.gamma_ln.specs.declared.log_gamma.LogGamma as outcomes
-use Rattle.gamma_ln.specs.declared.log_gamma.LogGamma.TheVariants.{Value, Refused}
+use Rattle.refusal.specs.declared.refusal.Refusal.{Refusal}
 use Rattle.call.specs.declared.answer.Answer as calls
 use Rattle.capi.specs.declared.LogGamma.{LogGamma}
 use Rattle.sweeping.specs.declared.request.Request.{Request}
@@ -11,9 +10,9 @@ use Rattle.sweeping.specs.declared.sweep.Swept.{Swept}
 use Rattle.capi.specs.declared.Answer.{Answer}
 use Rattle.capi.specs.declared.Sweep.{Sweep}
 
-abbrev pub outcome_of : outcomes.LogGamma → LogGamma
-outcome_of (Value v) = record { value = v; number = 0 }
-outcome_of (Refused r) = record { value = not_a_number; number = number_of r }
+abbrev pub outcome_of : Result Float Refusal → LogGamma
+outcome_of (Ok v) = record { value = v; number = 0 }
+outcome_of (Err r) = record { value = not_a_number; number = number_of r }
 
 -- scaled: 0 no, any other yes
 abbrev pub is_scaled : ℕ → Bool

@@ -116,8 +116,8 @@ pub fn lichenoar_log_gamma(x: f64) -> LogGamma
 {
     let outcome = log_gamma(x);
     match outcome {
-        gamma_ln::log_gamma::LogGamma::Value(value) => LogGamma { value, number: 0 },
-        gamma_ln::log_gamma::LogGamma::Refused(refusal) => LogGamma {
+        Ok(value) => LogGamma { value, number: 0 },
+        Err(refusal) => LogGamma {
             value: not_a_number(),
             number: refusal.number(),
         },

@@ -19,7 +19,8 @@ use Rattle.gamma_ln.specs.LogGamma.{log_gamma_of, outcome_at}
 use Rattle.gamma_ln.specs.Series as stirling
 use Rattle.gamma_ln.proofs.Counts.{series-ends}
 use Rattle.gamma_ln.specs.LogGamma as log-gammas
-use Rattle.gamma_ln.specs.declared.log_gamma.LogGamma.{LogGamma}
+use Rattle.refusal.specs.declared.refusal.Refusal.{Refusal}
+use Rattle.std.specs.Prelude.{Result}
 use Rattle.gamma_ln.proofs.LogGammaFacts as log-gamma
 use Rattle.series_sum.specs.Sum.{sum_is_one}
 use Rattle.series_sum.proofs.SumEnds.{EndsByTest}
@@ -302,9 +303,9 @@ of-i = record {
   log-gammas = λ scaled v re im length. answered-log-gammas-end scaled false v re im length;
 }
 
--- ---- log-gamma: one definition gives the number and the values of each case of its enum
+-- ---- log-gamma: one definition gives the number and the values of each case of its result
 pub record OfLogGamma : Type 0 where
-  pub one-outcome : (x : Float) → Determined (λ (a : LogGamma). log-gammas.outcome_of a ≡ outcome_at x)
+  pub one-outcome : (x : Float) → Determined (λ (a : Result Float Refusal). log-gammas.outcome_of a ≡ outcome_at x)
   pub value :
       (x : Float) →
       ((outcome_at x).number ≡ 0 → T (positive x) × T (finite (gamma_ln_of x).value))

@@ -3,14 +3,12 @@ use mathlib.Core.Path.{◌≡◌, refl, sym, ap, ◌∙◌, subst}
 use mathlib.Core.List.{[], ◌∷◌}
 use lib.Dec.{T}
 use lib.Ieee.{Float}
-use Rattle.call.specs.declared.checks.Verdict.{Verdict}
-use Rattle.call.specs.declared.checks.Verdict.TheVariants.{Admitted, Refused}
-use Rattle.call.specs.Checks.{verdict_of}
+use Rattle.std.specs.Prelude.{Result, Ok, Err}
+use Rattle.refusal.specs.declared.refusal.Refusal.{Refusal}
+use Rattle.call.specs.Checks.{Verdict, verdict_of}
 use Rattle.call.proofs.FirstFacts.{Given, is_one_of, none-or-listed}
 use Rattle.gamma_ln.specs.GammaLn.{gamma_ln_of}
 use Rattle.gamma_ln.specs.LogGamma.{Outcome, log_gamma_of, all_checks, outcome_of, outcome_by, outcome_at}
-use Rattle.gamma_ln.specs.declared.log_gamma.LogGamma.{LogGamma}
-use Rattle.gamma_ln.specs.declared.log_gamma.LogGamma.TheVariants as cases
 use Rattle.gamma_ln.proofs.LogGammaFacts.{numbers, listed, steps-outcome}
 use Rattle.capi.specs.Outcome as exported
 
@@ -19,17 +17,17 @@ no_other x = none-or-listed (all_checks x) (outcome_at x).number (2 ∷ 10 ∷ 8
 
 by-verdict : (verdict : Verdict) (value : Float) → ((outcome_by verdict value).number ≡ 0 → ⊥) → (outcome_by verdict value).values ≡ []
 unfolding outcome_by
-by-verdict Admitted value h = absurd (h refl)
-by-verdict (Refused r) value h = refl
+by-verdict (Ok admitted) value h = absurd (h refl)
+by-verdict (Err r) value h = refl
 
 pub no_value : (x : Float) → ((outcome_at x).number ≡ 0 → ⊥) → (outcome_at x).values ≡ []
 unfolding outcome_at
 no_value x h = by-verdict (verdict_of (all_checks x)) (gamma_ln_of x).value h
 
 -- ---- the number that C is handed is the outcome's
-as-exported : (a : LogGamma) → (exported.outcome_of a).number ≡ (outcome_of a).number
-as-exported (cases.Value v) = refl
-as-exported (cases.Refused r) = refl
+as-exported : (a : Result Float Refusal) → (exported.outcome_of a).number ≡ (outcome_of a).number
+as-exported (Ok v) = refl
+as-exported (Err r) = refl
 
 handed : (x : Float) → (outcome_at x).number ≡ (exported.outcome_of (log_gamma_of x)).number
 handed x = sym (as-exported (log_gamma_of x) ∙ ap (λ (o : Outcome). o.number) (steps-outcome x))

@@ -5,6 +5,7 @@ use mathlib.Core.List.{[], ◌∷◌}
 use Prim.Native.Nat.{ℕ}
 use lib.IntN.{pos, negsuc}
 use lib.Ieee.{Float, nan, fin, binary64, of_bits, to_unsigned}
+use Rattle.std.specs.Prelude.{Ok, Err}
 use Rattle.refusal.specs.declared.refusal.Refusal.TheVariants.{Length, NotFinite, Sign, Series, NotPositive}
 use Rattle.roots.specs.Sqrt.{sqrt_of}
 use Rattle.roots.proofs.SqrtValues.{sqrt-of-four, sqrt-of-smallest}
@@ -12,7 +13,6 @@ use Rattle.rounding.proofs.RoundFacts.{quarter, half, three_halves}
 use Rattle.complex.specs.Lost.{lost_of}
 use Rattle.complex.proofs.LostFacts.{zero-not-lost, one-not-lost, small-lost, nan-re-not-lost, nan-im-not-lost}
 use Rattle.gamma_ln.specs.LogGamma.{log_gamma_of}
-use Rattle.gamma_ln.specs.declared.log_gamma.LogGamma.TheVariants.{Value, Refused}
 use Rattle.gamma_ln.proofs.LogGammaFacts.{of_one, of_two, of_zero}
 use Rattle.right_half_plane.specs.Ground.{nearest_order}
 use Rattle.machine.specs.Small.{nothing, one}
@@ -52,9 +52,9 @@ pub record Rows : Type 0 where
   pub root-of-four : sqrt_of (fin false 1 (pos 2)) ≡ fin false 1 (pos 1)
   pub root-of-smallest : sqrt_of (fin false 1 (negsuc 1073)) ≡ fin false 1 (negsuc 536)
   -- log-gamma of 1 and 2 is 0, of 0 is refusal 10
-  pub log-gamma-of-one : log_gamma_of one ≡ Value nothing
-  pub log-gamma-of-two : log_gamma_of (of_bits binary64 0x4000000000000000) ≡ Value nothing
-  pub log-gamma-of-zero : log_gamma_of nothing ≡ Refused NotPositive
+  pub log-gamma-of-one : log_gamma_of one ≡ Ok nothing
+  pub log-gamma-of-two : log_gamma_of (of_bits binary64 0x4000000000000000) ≡ Ok nothing
+  pub log-gamma-of-zero : log_gamma_of nothing ≡ Err NotPositive
 
 r-quarter : nearest_order (of_bits binary64 0x3FD0000000000000) ≡ 0
 unfolding nearest_order of_bits to_unsigned

@@ -50,8 +50,8 @@ impl Complex {
         ensures { result ≡ two_over_with self modulus }
     {
         let t = 1.0 / modulus;
-        let s = self.conjugate().times_real(t);
-        s.plus(s).times_real(t)
+        let s = self.conjugate() * t;
+        (s + s) * t
     }
 }
 
@@ -87,17 +87,15 @@ pub fn ln_with(modulus: f64, angle: f64) -> Complex
 pub fn exp_cosh_sinh(z: Complex) -> ExpCoshSinh
     ensures { (result.exp ≡ complex_exp_of z) × (result.cosh ≡ complex_cosh_of z) × (result.sinh ≡ complex_sinh_of z) }
 {
-    if z.re == 0.0 {
-        if z.im == 0.0 {
-            return ExpCoshSinh {
-                exp: Complex { re: 1.0, im: z.im },
-                cosh: Complex {
-                    re: 1.0,
-                    im: z.re * z.im,
-                },
-                sinh: z,
-            };
-        }
+    if z.re == 0.0 && z.im == 0.0 {
+        return ExpCoshSinh {
+            exp: Complex { re: 1.0, im: z.im },
+            cosh: Complex {
+                re: 1.0,
+                im: z.re * z.im,
+            },
+            sinh: z,
+        };
     }
     off_zero(z)
 }

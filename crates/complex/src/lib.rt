@@ -5,4 +5,5 @@
 pub mod functions;
 pub mod lost;
 pub mod number;
+pub mod operators;
 pub mod power;

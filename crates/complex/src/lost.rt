@@ -10,10 +10,8 @@ use machine::magnitude::magnitude;
 fn lost_beside(smaller: f64, larger: f64) -> bool
     ensures { result ≡ lost_beside smaller larger }
 {
-    if smaller <= Machine::ABSOLUTE_APPROXIMATION_LIMIT {
-        return larger < smaller * Machine::INVERSE_TOLERANCE;
-    }
-    false
+    smaller <= Machine::ABSOLUTE_APPROXIMATION_LIMIT
+        && larger < smaller * Machine::INVERSE_TOLERANCE
 }
 
 pub fn lost(z: Complex) -> bool

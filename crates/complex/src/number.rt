@@ -1,5 +1,6 @@
-// A complex number, and its plain arithmetic. From num's complex::Complex, without its scaled forms.
-// Promised: each operation is its definition in specs/Arithmetic.antt, for every pair of parts.
+// A complex number, and its plain arithmetic by name. From num's complex::Complex, without its scaled forms.
+// Promised: each operation is its definition in specs/Arithmetic.antt, for every pair of parts. The signs + - * / for them are in
+// operators.rt.
 ghost use Rattle.std.specs.Prelude.{◌≡◌};
 ghost use Rattle.complex.specs.Arithmetic.{zero_pair, plus_of, minus_of, opposite_of, conjugate_of, product_of, quotient_of};
 ghost use Rattle.complex.specs.Arithmetic.{times_real, over_real, plus_real, minus_real, real_over, norm_square_of};
@@ -11,31 +12,27 @@ pub struct Complex {
 }
 
 impl Complex {
+    // both parts +0
+    pub const ZERO: Complex = Complex { re: 0.0, im: 0.0 };
+
+    pub const ONE: Complex = Complex { re: 1.0, im: 0.0 };
+
     pub fn plus(self, w: Complex) -> Complex
         ensures { result ≡ plus_of self w }
     {
-        Complex {
-            re: self.re + w.re,
-            im: self.im + w.im,
-        }
+        self + w
     }
 
     pub fn minus(self, w: Complex) -> Complex
         ensures { result ≡ minus_of self w }
     {
-        Complex {
-            re: self.re - w.re,
-            im: self.im - w.im,
-        }
+        self - w
     }
 
     pub fn opposite(self) -> Complex
         ensures { result ≡ opposite_of self }
     {
-        Complex {
-            re: -self.re,
-            im: -self.im,
-        }
+        -self
     }
 
     pub fn conjugate(self) -> Complex
@@ -50,10 +47,7 @@ impl Complex {
     pub fn product(self, w: Complex) -> Complex
         ensures { result ≡ product_of self w }
     {
-        Complex {
-            re: self.re * w.re - self.im * w.im,
-            im: self.re * w.im + self.im * w.re,
-        }
+        self * w
     }
 
     pub fn norm_square(self) -> f64
@@ -65,47 +59,31 @@ impl Complex {
     pub fn quotient(self, w: Complex) -> Complex
         ensures { result ≡ quotient_of self w }
     {
-        let n = w.re * w.re + w.im * w.im;
-        Complex {
-            re: (self.re * w.re + self.im * w.im) / n,
-            im: (self.im * w.re - self.re * w.im) / n,
-        }
+        self / w
     }
 
     pub fn times_real(self, t: f64) -> Complex
         ensures { result ≡ times_real self t }
     {
-        Complex {
-            re: self.re * t,
-            im: self.im * t,
-        }
+        self * t
     }
 
     pub fn over_real(self, t: f64) -> Complex
         ensures { result ≡ over_real self t }
     {
-        Complex {
-            re: self.re / t,
-            im: self.im / t,
-        }
+        self / t
     }
 
     pub fn plus_real(self, t: f64) -> Complex
         ensures { result ≡ plus_real self t }
     {
-        Complex {
-            re: self.re + t,
-            im: self.im,
-        }
+        self + t
     }
 
     pub fn minus_real(self, t: f64) -> Complex
         ensures { result ≡ minus_real self t }
     {
-        Complex {
-            re: self.re - t,
-            im: self.im,
-        }
+        self - t
     }
 }
 
@@ -113,11 +91,11 @@ impl Complex {
 pub fn real_over(a: f64, z: Complex) -> Complex
     ensures { result ≡ real_over a z }
 {
-    Complex { re: a, im: 0.0 }.quotient(z)
+    Complex { re: a, im: 0.0 } / z
 }
 
 pub fn zero_pair() -> Complex
     ensures { result ≡ zero_pair }
 {
-    Complex { re: 0.0, im: 0.0 }
+    Complex::ZERO
 }

@@ -8,6 +8,5 @@ use crate::number::Complex;
 pub fn square(z: Complex) -> Complex
     ensures { result ≡ power_of z 2 }
 {
-    let one = Complex { re: 1.0, im: 0.0 };
-    one.product(z).product(z)
+    Complex::ONE * z * z
 }

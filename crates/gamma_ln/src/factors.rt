@@ -14,10 +14,11 @@ pub fn factors(z: f64, wanted: u32) -> Multiplied
     ensures { result ≡ factors_of z wanted }
 {
     let mut product = 1.0;
-    let mut count: u32 = 0;
-    while count < wanted {
-        product = product * (z + count as f64);
-        count += 1;
+    for count in 0..wanted {
+        product *= z + count as f64;
     }
-    Multiplied { product, count }
+    Multiplied {
+        product,
+        count: wanted,
+    }
 }

@@ -25,6 +25,7 @@ pub struct Computed {
     pub terms: u32,
 }
 
+#[inline(always)]
 pub fn gamma_ln(x: f64) -> Computed
     ensures { result ≡ gamma_ln_of x }
 {
@@ -45,18 +46,11 @@ pub fn gamma_ln(x: f64) -> Computed
     summed(x)
 }
 
-// The value alone, which comes back in a register.
+// The value alone, which comes back in a register: for that the record is worked out in here.
 pub fn value(x: f64) -> f64
     ensures { result ≡ (gamma_ln_of x).value }
 {
-    if x <= 0.0 {
-        return not_a_number();
-    }
-    if is_tabulated(x) {
-        return tabulated(x);
-    }
-    let sum = summed(x);
-    sum.value
+    gamma_ln(x).value
 }
 
 // ln(2π)
@@ -82,7 +76,7 @@ fn is_tabulated(x: f64) -> bool
     ensures { result ≡ is_tabulated x }
 {
     let whole = x + GRID - GRID;
-    if x <= 100.1 { whole == x } else { false }
+    x <= 100.1 && whole == x
 }
 
 fn tabulated(x: f64) -> f64

@@ -6,40 +6,30 @@ ghost use Rattle.call.specs.Checks.{verdict_of};
 ghost use Rattle.gamma_ln.specs.LogGamma.{argument_checks, valued_of, outcome_of, outcome_at};
 
 use crate::gamma_ln::value;
-use call::checks::Verdict;
+use call::checks::refused_if;
 use machine::finite::is_finite;
 use refusal::refusal::Refusal;
 
-#[derive(Clone, Copy)]
-pub enum LogGamma {
-    Value(f64),
-    Refused(Refusal),
-}
-
-fn argument_verdict(x: f64) -> Verdict
+fn argument_checked(x: f64) -> Result<(), Refusal>
     ensures { result ≡ verdict_of (argument_checks x) }
 {
-    Verdict::Admitted
-        .refused_if(!is_finite(x), Refusal::NotFinite)
-        .refused_if(x <= 0.0, Refusal::NotPositive)
+    refused_if(!is_finite(x), Refusal::NotFinite)?;
+    refused_if(x <= 0.0, Refusal::NotPositive)
 }
 
-fn valued(value: f64) -> LogGamma
+fn valued(value: f64) -> Result<f64, Refusal>
     ensures { result ≡ valued_of value }
 {
     if is_finite(value) {
-        LogGamma::Value(value)
+        Ok(value)
     } else {
-        LogGamma::Refused(Refusal::Overflow)
+        Err(Refusal::Overflow)
     }
 }
 
-pub fn log_gamma(x: f64) -> LogGamma
+pub fn log_gamma(x: f64) -> Result<f64, Refusal>
     ensures { outcome_of result ≡ outcome_at x }
 {
-    let verdict = argument_verdict(x);
-    match verdict {
-        Verdict::Admitted => valued(value(x)),
-        Verdict::Refused(refusal) => LogGamma::Refused(refusal),
-    }
+    argument_checked(x)?;
+    valued(value(x))
 }

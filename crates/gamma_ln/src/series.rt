@@ -33,7 +33,7 @@ pub fn series(z: f64) -> Terms
 fn is_below(term: f64, bound: f64) -> bool
     ensures { result ≡ is_below term bound }
 {
-    if term < bound { term > -bound } else { false }
+    term < bound && term > -bound
 }
 
 fn further(start: f64, first: f64, square: f64, bound: f64) -> Terms
@@ -42,16 +42,18 @@ fn further(start: f64, first: f64, square: f64, bound: f64) -> Terms
     let coefficients = COEFFICIENTS;
     let mut power = start;
     let mut sum = first;
-    let mut count: u32 = 1;
-    while count < 22 {
+    for count in 1..22 {
         let next = power * square;
         let term = coefficients[count as usize] * next;
         if is_below(term, bound) {
             return Terms { power, sum, count };
         }
         power = next;
-        sum = sum + term;
-        count += 1;
+        sum += term;
     }
-    Terms { power, sum, count }
+    Terms {
+        power,
+        sum,
+        count: 22,
+    }
 }

@@ -190,7 +190,7 @@ module _ (turned : Bool) (v : Float) (z : Complex) (m : Float) (F : T (fits bina
       let n = zero_is v F e in
       ap (λ (q : Sum). q.value.re ∷ q.value.im ∷ []) is ∙ sym (alone-cells turned v z m n.0 n.1 same)
 
-pub pair-cells : (xs : List Float) (a b : Float) → length xs ≡ 2 → set (set xs 0 a) 1 b ≡ a ∷ b ∷ []
+pub pair-cells : (xs : List Float) (a b : Float) → length xs ≡ 2 → set (set xs 1 b) 0 a ≡ a ∷ b ∷ []
 pair-cells [] a b h = absurd (short h)
   where
     short : ◌≡◌ {A = ℕ} 0 2 → ⊥

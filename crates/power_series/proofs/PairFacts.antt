@@ -26,10 +26,10 @@ use Rattle.series_step.specs.Mark.{mark_of, marked_of}
 use Rattle.series_step.specs.Seed.{coefficient_if, coefficient_of, is_gone, kept_of, gone_if, summed_of, seed_if, seed_of}
 use Rattle.series_step.specs.Recurred.{backward_of, recurred_if, recurred_of}
 use Rattle.series_step.specs.Step.{step_if, step_of}
-use Rattle.power_series.specs.declared.pair.Pair.{Pair}
+use Rattle.series_sum.specs.declared.sums.Two.{Two}
 use Rattle.power_series.specs.Visit.{walk_of}
 use Rattle.power_series.specs.shapes.Pair.{entered_of, pair_of, Settled, Begun}
-use Rattle.power_series.proofs.WalkFacts.{Walking, walking_start, walking-step}
+use Rattle.power_series.proofs.WalkFacts.{Walking, walking_start, walking-put}
 
 -- ---- far from underflow
 wider : T (le (neg exponent_limit) (neg approximation_limit))
@@ -135,7 +135,7 @@ module _ (g : Setting) (n : ℕ) where
       }
 
 -- ---- the cells of the pair
-module _ (g : Setting) (n : ℕ) (p : Pair) (b : Begun g n p) (d : List Float) where
+module _ (g : Setting) (n : ℕ) (p : Two Descent) (b : Begun g n p) (d : List Float) where
   two-less : (n : ℕ) → n - 2 ≡ n - 1 - 1
   two-less n = omega arith
 
@@ -146,13 +146,14 @@ module _ (g : Setting) (n : ℕ) (p : Pair) (b : Begun g n p) (d : List Float) w
   pub paired-settled : Settled n (n - 1 - 1) p.lower
   paired-settled = subst (λ (k : ℕ). Settled n k p.lower) (two-less n) b.settled
 
-  abbrev pub paired_cells : List Float
-  paired_cells =
-      set (set (set (set d ((n - 1) * 2 + 1) p.higher.above.im) ((n - 1) * 2) p.higher.above.re) ((n - 1 - 1) * 2 + 1) p.lower.above.im) ((n - 1 - 1) * 2) p.lower.above.re
-
-  pub paired-walk : length d ≡ n * 2 → 1 < n → Walking g (walk_of g n) d n (n - 1 - 1) p.lower paired_cells
-  paired-walk e h =
-      walking-step g d n (walking-step g d n (walking_start g d n e start_descent refl) p.higher b.higher (omega arith) start-goes) p.lower (b.lower ∙ ap (λ (k : ℕ). step_of g k p.higher) (two-less n)) (omega arith) b.goes
+  pub paired-walk :
+      length d ≡ n * 2 → 1 < n →
+      (first : List Float) → first ≡ set (set d ((n - 1) * 2 + 1) p.higher.above.im) ((n - 1) * 2) p.higher.above.re →
+      (second : List Float) → second ≡ set (set first ((n - 1 - 1) * 2 + 1) p.lower.above.im) ((n - 1 - 1) * 2) p.lower.above.re →
+      Walking g (walk_of g n) d n (n - 1 - 1) p.lower second
+  paired-walk e h first f second s =
+      let higher = walking-put g d n (walking_start g d n e start_descent refl) p.higher b.higher (omega arith) start-goes first f in
+      walking-put g d n higher p.lower (b.lower ∙ ap (λ (k : ℕ). step_of g k p.higher) (two-less n)) (omega arith) b.goes second s
 
 -- ---- the recurrence
 module _ (g : Setting) (k : ℕ) (s : Descent) where

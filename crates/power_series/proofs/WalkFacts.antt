@@ -110,6 +110,25 @@ module _ (g : Setting) (d : List Float) (n : ℕ) where
         next : (n left : ℕ) → 0 < left → left ≤ n → suc (n - left) ≡ n - (left - 1)
         next n left h l = omega arith
 
+    -- where the entry's two cells are written by a call
+    pub walking-put :
+        (t : Descent) → t ≡ step_of g (left - 1) state → 0 < left → state.stopped ≡ false →
+        (cells : List Float) → cells ≡ set (set out ((left - 1) * 2 + 1) t.above.im) ((left - 1) * 2) t.above.re →
+        Walking g whole d n (left - 1) t cells
+    walking-put t e h s cells f = subst (λ (l : List Float). Walking g whole d n (left - 1) t l) (sym f) (walking-step t e h s)
+
+    -- the same for the order of the index k, which is the next below
+    pub walking-at :
+        (k : ℕ) → k + 1 ≡ left → (t : Descent) → t ≡ step_of g k state → state.stopped ≡ false →
+        (cells : List Float) → cells ≡ set (set out (k * 2 + 1) t.above.im) (k * 2) t.above.re →
+        Walking g whole d n k t cells
+    walking-at k e t s h cells f =
+        let at-k : left - 1 ≡ k = omega arith in
+        let back : k ≡ left - 1 = sym at-k in
+        subst (λ (q : ℕ). Walking g whole d n q t cells) at-k
+        (walking-put t (s ∙ ap (λ (q : ℕ). step_of g q state) back) (omega arith) h cells
+        (f ∙ ap (λ (q : ℕ). set (set out (q * 2 + 1) t.above.im) (q * 2) t.above.re) back))
+
     pub walking-stop : state.stopped ≡ true → whole ≡ at left state w.cells
     unfolding is_stopped
     walking-stop s = w.rest ∙ run-stop stopping (stepping g) left (n - left) (at left state w.cells) s
@@ -128,6 +147,12 @@ module _ (g : Setting) (d : List Float) (n : ℕ) where
 
     pub walking-cells : whole ≡ at left state w.cells → drop (left * 2) out ≡ whole.cells
     walking-cells e = down-drop w.down ∙ ap (λ (q : Walk). q.cells) (sym e)
+
+    -- the same, where the number of orders left is written otherwise
+    pub walking-answer : whole ≡ at left state w.cells → (k : ℕ) → left ≡ k → (◌≡◌ {A = Standing} (record { left = k; state = state }) whole.standing) × (drop (k * 2) out ≡ whole.cells)
+    walking-answer e k f =
+        subst (λ (q : ℕ). (◌≡◌ {A = Standing} (record { left = q; state = state }) whole.standing) × (drop (q * 2) out ≡ whole.cells)) f
+        (walking-standing e, walking-cells e)
 
 -- no more orders are left than there were
 pub walk-left : (g : Setting) (n : ℕ) → (walk_of g n).standing.left ≤ n

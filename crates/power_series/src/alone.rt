@@ -8,7 +8,7 @@ ghost use Rattle.series_step.specs.Setting.{setting_of};
 ghost use Rattle.power_series.specs.Visit.{visit_of};
 ghost use Rattle.power_series.specs.shapes.Alone.{Something, Plain};
 
-use crate::visit::{Visit, stepwise};
+use crate::visit::{Visit, put, stepwise};
 use complex::number::Complex;
 use machine::finite::is_finite;
 use series_step::setting::{prepare, square_of, turn};
@@ -42,14 +42,13 @@ pub fn alone(turned: bool, order: f64, z: Complex, modulus: f64, out: &mut [f64]
     ensures { (result ≡ (visit_of (setting_of false turned order z modulus) 1).visit)
         × (out.new ≡ (visit_of (setting_of false turned order z modulus) 1).cells) }
 {
-    let half = z.times_real(0.5);
+    let half = z * 0.5;
     let half_modulus = modulus * 0.5;
     let half_z_sq = turn(turned, square_of(modulus, half));
     let sum = single_n_iteration(order + 0.0, half_z_sq, half_modulus * half_modulus);
     let value = sum.value;
     if is_plain(half.modulus(), value) {
-        out[0] = value.re;
-        out[1] = value.im;
+        put(out, 0, value);
         return Visit {
             zeros: 0,
             stopped: false,

@@ -6,77 +6,53 @@ ghost use Rattle.series_step.specs.Recurred.{recurred_of};
 ghost use Rattle.power_series.specs.Visit.{walk_of, visit_of};
 ghost use Rattle.power_series.specs.shapes.Pair.{entered_of, pair_of, Settled, Begun, walk_from};
 
-use crate::visit::{Standing, Visit, concluded, stepwise};
+use crate::visit::{Standing, Visit, concluded, put, stepwise};
 use complex::number::Complex;
 use machine::constants::Machine;
 use series_step::descent::{Descent, Tally, start};
 use series_step::leading::leading;
 use series_step::mark::marked;
-use series_step::recurred::backward;
+use series_step::recurred::{backward, unmarked};
 use series_step::seed::kept;
 use series_step::setting::Setting;
 use series_sum::sum::Sum;
-use series_sum::sums::two_sums;
-
-// The states after the highest order and after the next.
-#[derive(Clone, Copy)]
-pub struct Pair {
-    pub higher: Descent,
-    pub lower: Descent,
-}
+use series_sum::sums::{Two, two_sums};
 
 fn entered(lead: Complex, whole: Complex, sum: Sum, s: Descent) -> Descent
     requires { s.seeded < 2 }
     ensures { result ≡ entered_of lead whole sum s }
 {
-    let value = sum.value;
-    let m = marked(lead.re, sum.terms, s);
-    kept(value.product(whole), m)
+    kept(sum.value * whole, marked(lead.re, sum.terms, s))
 }
 
-// The exponentials come first: the sums, whose ends cannot be foreseen, then run beside them.
-fn seeds(g: Setting, n: u32, first: Complex, second: Complex) -> Pair
+// The states after the highest order and after the next. The exponentials come first: the sums, whose ends cannot be foreseen, then run beside them.
+fn seeds(g: Setting, n: u32, first: Complex, second: Complex) -> Two<Descent>
     requires { 1 < n }
     ensures { result ≡ pair_of g n first second }
 {
     let whole = first.exp();
     let other = second.exp();
-    let half_z_sq = g.half_z_sq;
     let sums = two_sums(
         g.order + ((n - 1) as f64),
         g.order + ((n - 2) as f64),
-        half_z_sq,
+        g.half_z_sq,
         g.abs_half_z_sq,
     );
-    let a = sums.higher;
-    let b = sums.lower;
-    let higher = entered(first, whole, a, start());
-    let lower = entered(second, other, b, higher);
-    Pair { higher, lower }
+    let higher = entered(first, whole, sums.higher, start());
+    let lower = entered(second, other, sums.lower, higher);
+    Two { higher, lower }
 }
 
 fn rung(g: Setting, k: u32, s: Descent) -> Descent
     requires { (k + 1 < 2 ^ 32) × (s.counts.rungs + 1 < 2 ^ 32) × (s.near_underflow ≡ false) }
     ensures { result ≡ recurred_of g k s }
 {
-    let older = s.y_k_plus_2;
-    let newer = s.y_k_plus_1;
     let c = s.counts;
-    let next = backward(g, k, older, newer);
-    Descent {
-        y_k_plus_2: newer,
-        y_k_plus_1: next,
-        above: next,
-        scale_factor: s.scale_factor,
-        counts: Tally {
-            zeros: c.zeros,
-            longest_sum: c.longest_sum,
-            rungs: c.rungs + 1,
-        },
-        seeded: s.seeded,
-        near_underflow: false,
-        stopped: false,
-    }
+    let counts = Tally {
+        rungs: c.rungs + 1,
+        ..c
+    };
+    unmarked(backward(g, k, s.y_k_plus_2, s.y_k_plus_1), counts, s)
 }
 
 // Two orders at a time, so that a value stays in the registers in which it was worked out.
@@ -88,21 +64,15 @@ fn two_by_two(g: Setting, most: usize, settled: Descent, out: &mut [f64]) -> Sta
     ensures { (result ≡ (walk_from g (length out.old / 2) most settled (drop (most * 2) out.old)).standing)
         × (drop (result.left * 2) out.new ≡ (walk_from g (length out.old / 2) most settled (drop (most * 2) out.old)).cells) }
 {
-    let mut left = most;
     let mut state = settled;
-    while left > 1 {
-        left -= 1;
-        let s = rung(g, left as u32, state);
-        let a = s.above;
-        out[left * 2 + 1] = a.im;
-        out[left * 2] = a.re;
-        left -= 1;
-        state = rung(g, left as u32, s);
-        let b = state.above;
-        out[left * 2 + 1] = b.im;
-        out[left * 2] = b.re;
+    for pair in (0..most / 2).rev() {
+        let k = pair * 2;
+        let s = rung(g, (k + 1) as u32, state);
+        put(out, k + 1, s.above);
+        state = rung(g, k as u32, s);
+        put(out, k, state.above);
     }
-    Standing { left, state }
+    Standing { left: 0, state }
 }
 
 // An odd order goes first, by itself.
@@ -118,13 +88,11 @@ fn evened(g: Setting, left: usize, s: Descent, out: &mut [f64]) -> Standing
     }
     let k = left - 1;
     let state = rung(g, k as u32, s);
-    let a = state.above;
-    out[k * 2 + 1] = a.im;
-    out[k * 2] = a.re;
+    put(out, k, state.above);
     Standing { left: k, state }
 }
 
-fn paired(g: Setting, p: Pair, out: &mut [f64]) -> Standing
+fn paired(g: Setting, p: Two<Descent>, out: &mut [f64]) -> Standing
     requires { (length out.old % 2 ≡ 0)
         × (length out.old ≤ 1024)
         × (1 < length out.old / 2)
@@ -134,32 +102,15 @@ fn paired(g: Setting, p: Pair, out: &mut [f64]) -> Standing
 {
     let higher = p.higher;
     let lower = p.lower;
-    let a = higher.above;
-    let b = lower.above;
     let mut left = out.len() / 2 - 1;
-    out[left * 2 + 1] = a.im;
-    out[left * 2] = a.re;
+    put(out, left, higher.above);
     left -= 1;
-    out[left * 2 + 1] = b.im;
-    out[left * 2] = b.re;
+    put(out, left, lower.above);
     let r = evened(g, left, lower, out);
-    let state = r.state;
-    two_by_two(g, r.left, state, out)
+    two_by_two(g, r.left, r.state, out)
 }
 
-fn copied(v: Visit) -> Visit
-    ensures { result ≡ v }
-{
-    Visit {
-        zeros: v.zeros,
-        stopped: v.stopped,
-        place: v.place,
-        longest_sum: v.longest_sum,
-        rungs: v.rungs,
-    }
-}
-
-// The record of the other way is copied field by field: as a whole it would draw the record of this one through memory.
+// The record of the other way is taken field by field, with `..`: as a whole it would draw the record of this one through memory.
 pub fn downward(g: Setting, out: &mut [f64]) -> Visit
     requires { (length out.old % 2 ≡ 0) × (length out.old ≤ 1024) }
     ensures { (result ≡ (visit_of g (length out.old / 2)).visit)
@@ -167,15 +118,15 @@ pub fn downward(g: Setting, out: &mut [f64]) -> Visit
 {
     let n = (out.len() / 2) as u32;
     if n < 2 {
-        return copied(stepwise(g, out));
+        return Visit { ..stepwise(g, out) };
     }
     let first = leading(g, g.order + ((n - 1) as f64));
     let second = leading(g, g.order + ((n - 2) as f64));
     if first.re <= -Machine::APPROXIMATION_LIMIT {
-        return copied(stepwise(g, out));
+        return Visit { ..stepwise(g, out) };
     }
     if second.re <= -Machine::APPROXIMATION_LIMIT {
-        return copied(stepwise(g, out));
+        return Visit { ..stepwise(g, out) };
     }
     let r = paired(g, seeds(g, n, first, second), out);
     concluded(r, out)

@@ -1,18 +1,20 @@
 // The downward visit, one order at a time: v + n - 1 to v, each entry into its two cells from the top down, until a zeroed order stops it;
 // the cells below hold the fixed not-a-number. From src/amos/power_series.rs, i_power_series (ZSERI, from 20 on). Promised: visit_of of
 // specs/Visit.antt, record and cells.
-ghost use Rattle.std.specs.Prelude.{◌≡◌, ◌*◌, ◌/◌, ◌%◌, ◌≤◌, length, drop};
+ghost use Rattle.std.specs.Prelude.{◌≡◌, ◌+◌, ◌*◌, ◌/◌, ◌%◌, ◌≤◌, ◌<◌, length, drop, set};
 ghost use Rattle.power_series.specs.Visit.{walk_of, visit_of};
 ghost use Rattle.power_series.specs.shapes.Visit.{concluded_of};
 
 use cells::fill::fill;
+use complex::number::Complex;
 use machine::constants::not_a_number;
 use series_step::descent::{Descent, start};
 use series_step::setting::Setting;
 use series_step::step::step;
 
 // How many orders were set to zero, whether and where the visit stopped, the terms of its longest sum, and its steps of recurrence.
-// Finished are the entries from the place up; it is 0 where the visit did not stop.
+// Finished are the entries from the place up; it is 0 where the visit did not stop. visited_of of specs/Visit.antt has the two apart, and
+// callers read the place in either case: an Option<usize> would be read as `visit.stopped_at.unwrap_or(0)`.
 #[derive(Clone, Copy)]
 pub struct Visit {
     pub zeros: u32,
@@ -29,24 +31,30 @@ pub struct Standing {
     pub state: Descent,
 }
 
+// The entry of the order v + k into its two cells.
+pub fn put(out: &mut [f64], k: usize, entry: Complex)
+    requires { k * 2 + 1 < length out.old }
+    ensures { out.new ≡ set (set out.old (k * 2 + 1) entry.im) (k * 2) entry.re }
+{
+    out[k * 2 + 1] = entry.im;
+    out[k * 2] = entry.re;
+}
+
 fn descend(g: Setting, out: &mut [f64]) -> Standing
     requires { (length out.old % 2 ≡ 0) × (length out.old ≤ 1024) }
     ensures { (result ≡ (walk_of g (length out.old / 2)).standing)
         × (drop (result.left * 2) out.new ≡ (walk_of g (length out.old / 2)).cells) }
 {
-    let mut left = out.len() / 2;
+    let n = out.len() / 2;
     let mut state = start();
-    while left > 0 {
+    for k in (0..n).rev() {
         if state.stopped {
-            return Standing { left, state };
+            return Standing { left: k + 1, state };
         }
-        left -= 1;
-        state = step(g, left as u32, state);
-        let above = state.above;
-        out[left * 2 + 1] = above.im;
-        out[left * 2] = above.re;
+        state = step(g, k as u32, state);
+        put(out, k, state.above);
     }
-    Standing { left, state }
+    Standing { left: 0, state }
 }
 
 // The record of a visit that ended there, and the fixed not-a-number below it.

@@ -17,6 +17,8 @@ pub struct Tally {
 // The state between two orders: the last two values, raised near underflow, the entry of the order above, by what factor a value becomes
 // its entry, and how many orders are seeded. The types leave no byte of padding, which the compiler would carry through memory from order
 // to order.
+// The factor and the mark near_underflow are two fields, and no Option<f64>: a mark that is cleared leaves the factor as it was (cleared_if of
+// specs/Recurred.antt). The seeded orders are a number, and no enum of three kinds: kept_of of specs/Seed.antt counts them.
 #[derive(Clone, Copy)]
 pub struct Descent {
     pub y_k_plus_2: Complex,
@@ -32,11 +34,10 @@ pub struct Descent {
 pub fn start() -> Descent
     ensures { result ≡ start_descent }
 {
-    let zero = Complex { re: 0.0, im: 0.0 };
     Descent {
-        y_k_plus_2: zero,
-        y_k_plus_1: zero,
-        above: zero,
+        y_k_plus_2: Complex::ZERO,
+        y_k_plus_1: Complex::ZERO,
+        above: Complex::ZERO,
         scale_factor: 1.0,
         counts: Tally {
             zeros: 0,

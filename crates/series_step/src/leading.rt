@@ -10,11 +10,10 @@ use gamma_ln::gamma_ln::value;
 pub fn leading(g: Setting, order: f64) -> Complex
     ensures { result ≡ leading_of g order }
 {
-    let logarithm = g.ln_half_z;
     let below = value(order + 1.0);
-    let lead = logarithm.times_real(order).minus_real(below);
+    let lead = g.ln_half_z * order - below;
     if g.scaled {
-        return lead.minus_real(g.re);
+        return lead - g.re;
     }
     lead
 }

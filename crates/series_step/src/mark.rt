@@ -9,10 +9,7 @@ use machine::constants::Machine;
 fn mark(exponent: f64, near_underflow: bool) -> bool
     ensures { result ≡ mark_of exponent near_underflow }
 {
-    if exponent <= -Machine::APPROXIMATION_LIMIT {
-        return true;
-    }
-    near_underflow
+    exponent <= -Machine::APPROXIMATION_LIMIT || near_underflow
 }
 
 fn scale(exponent: f64, scale_factor: f64) -> f64
@@ -27,31 +24,20 @@ fn scale(exponent: f64, scale_factor: f64) -> f64
 fn longest(terms: u32, longest_sum: u32) -> u32
     ensures { result ≡ longest_of terms longest_sum }
 {
-    if longest_sum < terms {
-        return terms;
-    }
-    longest_sum
+    longest_sum.max(terms)
 }
 
 pub fn marked(exponent: f64, terms: u32, s: Descent) -> Descent
     ensures { result ≡ marked_of exponent terms s }
 {
-    let older = s.y_k_plus_2;
-    let newer = s.y_k_plus_1;
-    let above = s.above;
     let c = s.counts;
     Descent {
-        y_k_plus_2: older,
-        y_k_plus_1: newer,
-        above,
         scale_factor: scale(exponent, s.scale_factor),
         counts: Tally {
-            zeros: c.zeros,
             longest_sum: longest(terms, c.longest_sum),
-            rungs: c.rungs,
+            ..c
         },
-        seeded: s.seeded,
         near_underflow: mark(exponent, s.near_underflow),
-        stopped: s.stopped,
+        ..s
     }
 }

@@ -16,22 +16,15 @@ fn zeroed(g: Setting, order: f64, s: Descent) -> Descent
     requires { s.counts.zeros + 1 < 2 ^ 32 }
     ensures { result ≡ zeroed_of g order s }
 {
-    let older = s.y_k_plus_2;
-    let newer = s.y_k_plus_1;
     let c = s.counts;
     Descent {
-        y_k_plus_2: older,
-        y_k_plus_1: newer,
-        above: Complex { re: 0.0, im: 0.0 },
-        scale_factor: s.scale_factor,
+        above: Complex::ZERO,
         counts: Tally {
             zeros: c.zeros + 1,
-            longest_sum: c.longest_sum,
-            rungs: c.rungs,
+            ..c
         },
-        seeded: s.seeded,
-        near_underflow: s.near_underflow,
         stopped: g.abs_half_z_sq > order,
+        ..s
     }
 }
 
@@ -49,19 +42,14 @@ pub fn kept(value: Complex, s: Descent) -> Descent
     requires { s.seeded < 2 }
     ensures { result ≡ kept_of value s }
 {
-    let older = s.y_k_plus_2;
-    let newer = s.y_k_plus_1;
-    let c = s.counts;
     let first = s.seeded == 0;
     Descent {
-        y_k_plus_2: seed_or(first, value, older),
-        y_k_plus_1: seed_or(!first, value, newer),
-        above: value.times_real(s.scale_factor),
-        scale_factor: s.scale_factor,
-        counts: c,
+        y_k_plus_2: seed_or(first, value, s.y_k_plus_2),
+        y_k_plus_1: seed_or(!first, value, s.y_k_plus_1),
+        above: value * s.scale_factor,
         seeded: s.seeded + 1,
-        near_underflow: s.near_underflow,
         stopped: false,
+        ..s
     }
 }
 
@@ -70,7 +58,7 @@ fn coefficient(lead: Complex, near_underflow: bool) -> Complex
 {
     let whole = lead.exp();
     if near_underflow {
-        return whole.times_real(Machine::INVERSE_TOLERANCE);
+        return whole * Machine::INVERSE_TOLERANCE;
     }
     whole
 }
@@ -78,21 +66,16 @@ fn coefficient(lead: Complex, near_underflow: bool) -> Complex
 fn is_gone(near_underflow: bool, value: Complex) -> bool
     ensures { result ≡ is_gone near_underflow value }
 {
-    if near_underflow {
-        return lost(value);
-    }
-    false
+    near_underflow && lost(value)
 }
 
 fn summed(g: Setting, order: f64, lead: Complex, s: Descent) -> Descent
     requires { (s.seeded < 2) × (s.counts.zeros + 1 < 2 ^ 32) }
     ensures { result ≡ summed_of g order lead s }
 {
-    let half_z_sq = g.half_z_sq;
-    let sum = single_n_iteration(order, half_z_sq, g.abs_half_z_sq);
+    let sum = single_n_iteration(order, g.half_z_sq, g.abs_half_z_sq);
     let m = marked(lead.re, sum.terms, s);
-    let series_sum = sum.value;
-    let value = series_sum.product(coefficient(lead, m.near_underflow));
+    let value = sum.value * coefficient(lead, m.near_underflow);
     if is_gone(m.near_underflow, value) {
         return zeroed(g, order, m);
     }

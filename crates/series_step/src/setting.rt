@@ -26,7 +26,7 @@ pub fn turn(turned: bool, w: Complex) -> Complex
     ensures { result ≡ turned_of turned w }
 {
     if turned {
-        return w.opposite();
+        return -w;
     }
     w
 }
@@ -37,13 +37,13 @@ pub fn square_of(modulus: f64, half: Complex) -> Complex
     if modulus > SQUARE_LIMIT {
         return square(half);
     }
-    Complex { re: 0.0, im: 0.0 }
+    Complex::ZERO
 }
 
 pub fn prepare(scaled: bool, turned: bool, order: f64, z: Complex, modulus: f64) -> Setting
     ensures { result ≡ setting_of scaled turned order z modulus }
 {
-    let half = z.times_real(0.5);
+    let half = z * 0.5;
     let half_modulus = modulus * 0.5;
     Setting {
         order,

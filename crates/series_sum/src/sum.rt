@@ -5,6 +5,7 @@
 ghost use Rattle.std.specs.Prelude.{◌≡◌, ◌≤◌, ◌<◌};
 ghost use Rattle.series_sum.specs.Sum.{start_sum, next_sum, sum_of};
 ghost use Rattle.series_sum.specs.shapes.Sum.{sum_rest};
+ghost use Rattle.series_sum.specs.shapes.Sums.{outcome_of};
 
 use complex::number::Complex;
 use machine::constants::Machine;
@@ -13,6 +14,14 @@ use machine::constants::Machine;
 pub struct Sum {
     pub value: Complex,
     pub terms: u32,
+}
+
+impl Sum {
+    // a sum that is 1 at once
+    pub const ONE: Sum = Sum {
+        value: Complex { re: 1.0, im: 0.0 },
+        terms: 0,
+    };
 }
 
 // The error estimate, the denominator of the next term, and by how much that grows.
@@ -32,13 +41,31 @@ pub struct Partial {
     pub terms: u32,
 }
 
+// a sum that is at its end
+impl From<Partial> for Sum {
+    ghost from_gives = { λ s r. r ≡ outcome_of s };
+
+    fn from(s: Partial) -> Sum {
+        Sum {
+            value: s.value,
+            terms: s.terms,
+        }
+    }
+}
+
+// The square of z/2, or its opposite for J, and the square of |z/2|: what each term of a sum is made with.
+#[derive(Clone, Copy)]
+pub struct Squares {
+    pub half_z_sq: Complex,
+    pub abs_half_z_sq: f64,
+}
+
 pub fn start(order_plus_one: f64) -> Partial
     ensures { result ≡ start_sum order_plus_one }
 {
-    let one = Complex { re: 1.0, im: 0.0 };
     Partial {
-        value: one,
-        term: one,
+        value: Complex::ONE,
+        term: Complex::ONE,
         estimate: Estimate {
             error: 2.0,
             denominator: order_plus_one,
@@ -48,62 +75,63 @@ pub fn start(order_plus_one: f64) -> Partial
     }
 }
 
-pub fn next(half_z_sq: Complex, abs_half_z_sq: f64, s: Partial) -> Partial
-    requires { s.terms < 19 }
-    ensures { result ≡ next_sum half_z_sq abs_half_z_sq s }
-{
-    let e = s.estimate;
-    let value = s.value;
-    let last = s.term;
-    let reciprocal = 1.0 / e.denominator;
-    let term = last.product(half_z_sq.times_real(reciprocal));
-    Partial {
-        value: value.plus(term),
-        term,
-        estimate: Estimate {
-            error: e.error * (abs_half_z_sq * reciprocal),
-            denominator: e.denominator + e.step,
-            step: e.step + 2.0,
-        },
-        terms: s.terms + 1,
-    }
-}
-
-// the last turn that the bound leaves
-fn last(half_z_sq: Complex, abs_half_z_sq: f64, tolerance: f64, s: Partial) -> Partial
-    requires { (18 ≤ s.terms) × (s.terms ≤ 19) }
-    ensures { result ≡ sum_rest half_z_sq abs_half_z_sq tolerance s }
-{
-    let e = s.estimate;
-    if s.terms < 19 {
-        if e.error > tolerance {
-            return next(half_z_sq, abs_half_z_sq, s);
-        }
-    }
-    s
-}
-
-// Two turns at a time, so that a term stays in the registers in which it was worked out.
-pub fn finish(half_z_sq: Complex, abs_half_z_sq: f64, tolerance: f64, begun: Partial) -> Partial
-    requires { begun.terms ≤ 19 }
-    ensures { result ≡ sum_rest half_z_sq abs_half_z_sq tolerance begun }
-{
-    let mut s = begun;
-    while s.terms < 18 {
+impl Squares {
+    pub fn next(self, s: Partial) -> Partial
+        requires { s.terms < 19 }
+        ensures { result ≡ next_sum self.half_z_sq self.abs_half_z_sq s }
+    {
         let e = s.estimate;
-        if e.error > tolerance {
-            let t = next(half_z_sq, abs_half_z_sq, s);
-            let f = t.estimate;
-            if f.error > tolerance {
-                s = next(half_z_sq, abs_half_z_sq, t);
-            } else {
-                return t;
-            }
-        } else {
-            return s;
+        let reciprocal = 1.0 / e.denominator;
+        let term = s.term * (self.half_z_sq * reciprocal);
+        Partial {
+            value: s.value + term,
+            term,
+            estimate: Estimate {
+                error: e.error * (self.abs_half_z_sq * reciprocal),
+                denominator: e.denominator + e.step,
+                step: e.step + 2.0,
+            },
+            terms: s.terms + 1,
         }
     }
-    last(half_z_sq, abs_half_z_sq, tolerance, s)
+
+    // the last turn that the bound leaves
+    fn last(self, tolerance: f64, s: Partial) -> Partial
+        requires { (18 ≤ s.terms) × (s.terms ≤ 19) }
+        ensures { result ≡ sum_rest self.half_z_sq self.abs_half_z_sq tolerance s }
+    {
+        let e = s.estimate;
+        if s.terms < 19 {
+            if e.error > tolerance {
+                return self.next(s);
+            }
+        }
+        s
+    }
+
+    // Two turns at a time, so that a term stays in the registers in which it was worked out. The state counts its own terms:
+    // `for _ in (begun.terms..18).step_by(2)` would count them a second time.
+    pub fn finish(self, tolerance: f64, begun: Partial) -> Partial
+        requires { begun.terms ≤ 19 }
+        ensures { result ≡ sum_rest self.half_z_sq self.abs_half_z_sq tolerance begun }
+    {
+        let mut s = begun;
+        while s.terms < 18 {
+            let e = s.estimate;
+            if e.error > tolerance {
+                let t = self.next(s);
+                let f = t.estimate;
+                if f.error > tolerance {
+                    s = self.next(t);
+                } else {
+                    return t;
+                }
+            } else {
+                return s;
+            }
+        }
+        self.last(tolerance, s)
+    }
 }
 
 pub fn single_n_iteration(order: f64, half_z_sq: Complex, abs_half_z_sq: f64) -> Sum
@@ -111,16 +139,12 @@ pub fn single_n_iteration(order: f64, half_z_sq: Complex, abs_half_z_sq: f64) ->
 {
     let order_plus_one = order + 1.0;
     if abs_half_z_sq < Machine::TOLERANCE * order_plus_one {
-        return Sum {
-            value: Complex { re: 1.0, im: 0.0 },
-            terms: 0,
-        };
+        return Sum::ONE;
     }
     let tolerance = Machine::TOLERANCE * abs_half_z_sq / order_plus_one;
-    let s = finish(half_z_sq, abs_half_z_sq, tolerance, start(order_plus_one));
-    let value = s.value;
-    Sum {
-        value,
-        terms: s.terms,
-    }
+    let squares = Squares {
+        half_z_sq,
+        abs_half_z_sq,
+    };
+    Sum::from(squares.finish(tolerance, start(order_plus_one)))
 }

@@ -5,110 +5,81 @@ ghost use Rattle.series_sum.specs.Sum.{sum_unless, sum_of};
 ghost use Rattle.series_sum.specs.shapes.Sum.{sum_rest};
 ghost use Rattle.series_sum.specs.shapes.Sums.{outcome_of, one_or, both_go_on};
 
-use crate::sum::{Partial, Sum, finish, next, start};
+use crate::sum::{Partial, Squares, Sum, start};
 use complex::number::Complex;
 use machine::constants::Machine;
 
-// The sums at the higher and at the lower order.
+// What there is at the higher and at the lower of two orders.
 #[derive(Clone, Copy)]
-pub struct Sums {
-    pub higher: Sum,
-    pub lower: Sum,
+pub struct Two<T> {
+    pub higher: T,
+    pub lower: T,
 }
 
-// The same under way.
-#[derive(Clone, Copy)]
-pub struct Partials {
-    pub higher: Partial,
-    pub lower: Partial,
-}
-
-// At what error each sum ends.
-#[derive(Clone, Copy)]
-pub struct Tolerances {
-    pub higher: f64,
-    pub lower: f64,
-}
-
-fn both_go_on(t: Tolerances, higher: Partial, lower: Partial) -> bool
+fn both_go_on(t: Two<f64>, higher: Partial, lower: Partial) -> bool
     ensures { result ≡ both_go_on t.higher t.lower higher lower }
 {
     let a = higher.estimate;
     let b = lower.estimate;
-    if a.error > t.higher {
-        return b.error > t.lower;
-    }
-    false
+    a.error > t.higher && b.error > t.lower
 }
 
-// Two turns at a time, so that a term stays in the registers in which it was worked out.
-fn side_by_side(half_z_sq: Complex, abs_half_z_sq: f64, t: Tolerances, begun: Partials) -> Partials
+// Two turns at a time, so that a term stays in the registers in which it was worked out. The states count their own terms, as in Squares::finish.
+fn side_by_side(w: Squares, t: Two<f64>, begun: Two<Partial>) -> Two<Partial>
     requires { (begun.higher.terms ≤ 19) × (begun.lower.terms ≡ begun.higher.terms) }
     ensures { (result.higher.terms ≤ 19)
         × (result.lower.terms ≡ result.higher.terms)
-        × (sum_rest half_z_sq abs_half_z_sq t.higher begun.higher ≡ sum_rest half_z_sq abs_half_z_sq t.higher result.higher)
-        × (sum_rest half_z_sq abs_half_z_sq t.lower begun.lower ≡ sum_rest half_z_sq abs_half_z_sq t.lower result.lower) }
+        × (sum_rest w.half_z_sq w.abs_half_z_sq t.higher begun.higher ≡ sum_rest w.half_z_sq w.abs_half_z_sq t.higher result.higher)
+        × (sum_rest w.half_z_sq w.abs_half_z_sq t.lower begun.lower ≡ sum_rest w.half_z_sq w.abs_half_z_sq t.lower result.lower) }
 {
     let mut higher = begun.higher;
     let mut lower = begun.lower;
     while higher.terms < 18 {
         if !both_go_on(t, higher, lower) {
-            return Partials { higher, lower };
+            return Two { higher, lower };
         }
-        let h = next(half_z_sq, abs_half_z_sq, higher);
-        let l = next(half_z_sq, abs_half_z_sq, lower);
+        let h = w.next(higher);
+        let l = w.next(lower);
         if !both_go_on(t, h, l) {
-            return Partials {
+            return Two {
                 higher: h,
                 lower: l,
             };
         }
-        higher = next(half_z_sq, abs_half_z_sq, h);
-        lower = next(half_z_sq, abs_half_z_sq, l);
+        higher = w.next(h);
+        lower = w.next(l);
     }
-    Partials { higher, lower }
+    Two { higher, lower }
 }
 
-fn outcome(s: Partial) -> Sum
-    ensures { result ≡ outcome_of s }
-{
-    let value = s.value;
-    Sum {
-        value,
-        terms: s.terms,
-    }
-}
-
-fn ended(half_z_sq: Complex, abs_half_z_sq: f64, tolerance: f64, s: Partial) -> Sum
+fn ended(w: Squares, tolerance: f64, s: Partial) -> Sum
     requires { s.terms ≤ 19 }
-    ensures { result ≡ outcome_of (sum_rest half_z_sq abs_half_z_sq tolerance s) }
+    ensures { result ≡ outcome_of (sum_rest w.half_z_sq w.abs_half_z_sq tolerance s) }
 {
     let e = s.estimate;
     if e.error > tolerance {
-        return outcome(finish(half_z_sq, abs_half_z_sq, tolerance, s));
+        return Sum::from(w.finish(tolerance, s));
     }
-    outcome(s)
+    Sum::from(s)
 }
 
 // u and v are the orders plus one
-fn both(u: f64, v: f64, half_z_sq: Complex, abs_half_z_sq: f64) -> Sums
-    ensures { (result.higher ≡ sum_unless false half_z_sq abs_half_z_sq u)
-        × (result.lower ≡ sum_unless false half_z_sq abs_half_z_sq v) }
+fn both(u: f64, v: f64, w: Squares) -> Two<Sum>
+    ensures { (result.higher ≡ sum_unless false w.half_z_sq w.abs_half_z_sq u)
+        × (result.lower ≡ sum_unless false w.half_z_sq w.abs_half_z_sq v) }
 {
-    let t = Tolerances {
-        higher: Machine::TOLERANCE * abs_half_z_sq / u,
-        lower: Machine::TOLERANCE * abs_half_z_sq / v,
+    let t = Two {
+        higher: Machine::TOLERANCE * w.abs_half_z_sq / u,
+        lower: Machine::TOLERANCE * w.abs_half_z_sq / v,
     };
-    let begun = Partials {
+    let begun = Two {
         higher: start(u),
         lower: start(v),
     };
-    let reached = side_by_side(half_z_sq, abs_half_z_sq, t, begun);
-    let higher = reached.higher;
-    let lower = reached.lower;
-    Sums {
-        higher: ended(half_z_sq, abs_half_z_sq, t.higher, higher),
-        lower: ended(half_z_sq, abs_half_z_sq, t.lower, lower),
+    let reached = side_by_side(w, t, begun);
+    Two {
+        higher: ended(w, t.higher, reached.higher),
+        lower: ended(w, t.lower, reached.lower),
     }
 }
 
@@ -116,26 +87,25 @@ fn one_or(is_one: bool, s: Sum) -> Sum
     ensures { result ≡ one_or is_one s }
 {
     if is_one {
-        return Sum {
-            value: Complex { re: 1.0, im: 0.0 },
-            terms: 0,
-        };
+        return Sum::ONE;
     }
     s
 }
 
 // A sum that is 1 at once is taken nevertheless, and put aside: with no way around them the sums stay in registers.
-pub fn two_sums(higher: f64, lower: f64, half_z_sq: Complex, abs_half_z_sq: f64) -> Sums
+pub fn two_sums(higher: f64, lower: f64, half_z_sq: Complex, abs_half_z_sq: f64) -> Two<Sum>
     ensures { (result.higher ≡ sum_of higher half_z_sq abs_half_z_sq)
         × (result.lower ≡ sum_of lower half_z_sq abs_half_z_sq) }
 {
     let u = higher + 1.0;
     let v = lower + 1.0;
-    let s = both(u, v, half_z_sq, abs_half_z_sq);
-    let a = s.higher;
-    let b = s.lower;
-    Sums {
-        higher: one_or(abs_half_z_sq < Machine::TOLERANCE * u, a),
-        lower: one_or(abs_half_z_sq < Machine::TOLERANCE * v, b),
+    let squares = Squares {
+        half_z_sq,
+        abs_half_z_sq,
+    };
+    let s = both(u, v, squares);
+    Two {
+        higher: one_or(abs_half_z_sq < Machine::TOLERANCE * u, s.higher),
+        lower: one_or(abs_half_z_sq < Machine::TOLERANCE * v, s.lower),
     }
 }

@@ -14,7 +14,7 @@ use Rattle.series_step.specs.Descent.{start_descent}
 use Rattle.series_step.specs.Mark.{marked_of}
 use Rattle.series_step.specs.Seed.{kept_of}
 use Rattle.series_step.specs.Step.{step_of}
-use Rattle.power_series.specs.declared.pair.Pair.{Pair}
+use Rattle.series_sum.specs.declared.sums.Two.{Two}
 use Rattle.power_series.specs.Visit.{Walk, is_stopped, next_walk}
 
 -- after an order that is seeded with the leading term e^lead
@@ -22,7 +22,7 @@ unfoldable pub entered_of : Complex → Complex → Sum → Descent → Descent
 entered_of lead whole sum s = kept_of (product_of sum.value whole) (marked_of lead.re sum.terms s)
 
 -- after the two highest of n orders
-unfoldable pub pair_of : Setting → ℕ → Complex → Complex → Pair
+unfoldable pub pair_of : Setting → ℕ → Complex → Complex → Two Descent
 pair_of g n first second =
     let a = sum_of (order_at g.order (n - 1)) g.half_z_sq g.abs_half_z_sq in
     let b = sum_of (order_at g.order (n - 2)) g.half_z_sq g.abs_half_z_sq in
@@ -39,7 +39,7 @@ pub record Settled (n left : ℕ) (s : Descent) : Type 0 where
   pub rungs : s.counts.rungs + left ≤ n
 
 -- the pair is what the first two steps of a visit of n orders give
-pub record Begun (g : Setting) (n : ℕ) (p : Pair) : Type 0 where
+pub record Begun (g : Setting) (n : ℕ) (p : Two Descent) : Type 0 where
   pub higher : p.higher ≡ step_of g (n - 1) start_descent
   pub lower : p.lower ≡ step_of g (n - 2) p.higher
   pub goes : p.higher.stopped ≡ false

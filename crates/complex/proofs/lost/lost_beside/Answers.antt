@@ -1,4 +1,4 @@
--- `complex::lost::lost_beside` meets its contract: the second test is made where the first passes. Assumes nothing.
+-- `complex::lost::lost_beside` meets its contract. Assumes nothing.
 use Rattle.complex.specs.Lost.{lost_beside}
 use Rattle.machine.specs.Constants.{absolute_approximation_limit, inverse_tolerance}
 use Rattle.complex.proofs.lost.lost_beside.Goals as goal
@@ -7,6 +7,6 @@ pub returns-then-smaller : goal.returns-then-smaller
 unfolding lost_beside absolute_approximation_limit inverse_tolerance
 returns-then-smaller c = simp c.if-smaller.true
 
-pub returns : goal.returns
+pub returns-else-smaller : goal.returns-else-smaller
 unfolding lost_beside absolute_approximation_limit inverse_tolerance
-returns c = simp c.if-smaller.false
+returns-else-smaller c = simp c.if-smaller.false

@@ -4,4 +4,4 @@ use Rattle.complex.proofs.number.real_over.Goals as goal
 
 pub returns : goal.returns
 unfolding real_over
-returns c = c.quotient.ensures
+returns c = c.div.ensures

@@ -5,4 +5,4 @@ use Rattle.complex.proofs.power.square.Goals as goal
 
 pub returns : goal.returns
 unfolding power_of iterate
-returns c = simp (c.product-2.ensures, c.product.ensures)
+returns c = simp (c.mul-2.ensures, c.mul.ensures)

@@ -1,10 +1,11 @@
 -- `gamma_ln::factors::factors` meets its contract: before each turn the state is that of `count` steps. Assumes nothing.
-use mathlib.Core.Path.{◌≡◌, refl, sym, ap, ◌∙◌}
+use mathlib.Core.Path.{◌≡◌, refl, sym, ap, ◌∙◌, subst}
 use Prim.Native.Nat.{ℕ, ◌+◌}
 use native.Mathlib.Numerals.{add-one}
 use native.Mathlib.Omega.{arith}
 use lib.Ieee.{Float}
 use Rattle.laws.specs.Iterate.{iterate}
+use Rattle.gamma_ln.specs.declared.factors.Multiplied.{Multiplied}
 use Rattle.gamma_ln.specs.Factors.{with_factor, factors_of}
 use Rattle.gamma_ln.proofs.factors.factors.Goals as goal
 
@@ -14,21 +15,18 @@ one_more z n = sym (ap (factors_of z) (add-one n))
 
 pub loop-count-init : goal.loop-count-init
 unfolding factors_of iterate
-loop-count-init c = (omega arith, refl)
-
-pub loop-count-smaller : goal.loop-count-smaller
-loop-count-smaller c = omega arith
+loop-count-init c = refl
 
 pub loop-count-preserved : goal.loop-count-preserved
 unfolding with_factor
 loop-count-preserved c =
     let d = c in
     let z = d.args.z in
-    (omega arith, ap (with_factor z) d.loop-count.invariant.1 ∙ one_more z d.loop-count.count)
+    ap (with_factor z) d.loop-count.invariant ∙ one_more z d.loop-count.count
 
 pub returns : goal.returns
 returns c =
     let l = c.loop-count in
     let a = c.args in
     let e : l.count ≡ a.wanted = omega arith in
-    l.invariant.1 ∙ ap (factors_of a.z) e
+    subst (λ (n : ℕ). ◌≡◌ {A = Multiplied} (record { product = l.product; count = n }) (factors_of a.z n)) e l.invariant

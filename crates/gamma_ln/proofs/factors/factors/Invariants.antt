@@ -1,11 +1,7 @@
 use mathlib.Core.Path.{◌≡◌}
-use Prim.Native.Nat.{◌-◌, ◌≤◌}
 use Rattle.gamma_ln.specs.declared.factors.Multiplied.{Multiplied}
 use Rattle.gamma_ln.specs.Factors.{factors_of}
 use Rattle.gamma_ln.proofs.factors.factors.Given as goal
 
 abbrev pub invariant-loop-count : goal.invariant-loop-count
-invariant-loop-count l = (l.count ≤ l.wanted) × (◌≡◌ {A = Multiplied} (record { product = l.product; count = l.count }) (factors_of l.z l.count))
-
-abbrev pub decreases-loop-count : goal.decreases-loop-count
-decreases-loop-count l = l.wanted - l.count
+invariant-loop-count l = ◌≡◌ {A = Multiplied} (record { product = l.product; count = l.count }) (factors_of l.z l.count)

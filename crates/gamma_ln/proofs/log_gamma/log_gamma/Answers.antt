@@ -1,21 +1,16 @@
 -- `gamma_ln::log_gamma::log_gamma` meets its contract: the verdict, and the value behind it. Assumes nothing.
 use mathlib.Core.Path.{◌≡◌, ap, ◌∙◌}
-use Rattle.gamma_ln.specs.declared.log_gamma.LogGamma.TheVariants.{Refused}
+use Rattle.std.proofs.Common.{rules}
 use Rattle.gamma_ln.specs.LogGamma.{log_gamma_by, log_gamma_of, outcome_of}
 use Rattle.gamma_ln.proofs.LogGammaFacts.{steps-outcome}
 use Rattle.gamma_ln.proofs.log_gamma.log_gamma.Goals as goal
 
-pub returns-in-Admitted : goal.returns-in-Admitted
+pub returns-in_err-argument_checked : goal.returns-in_err-argument_checked
 unfolding log_gamma_of log_gamma_by
-returns-in-Admitted c =
-    let d = c in
-    let e : c.valued.result ≡ log_gamma_of d.args.x =
-    rw (← d.argument_verdict-verdict.ensures, d.in-Admitted.is, ← c.value.ensures) c.valued.ensures in
-    ap outcome_of e ∙ steps-outcome _
+returns-in_err-argument_checked c = rw (← steps-outcome c.args.x, ← c.argument_checked.ensures, c.in_err-argument_checked.was) (search rules)
 
-pub returns-in-Refused : goal.returns-in-Refused
+pub returns : goal.returns
 unfolding log_gamma_of log_gamma_by
-returns-in-Refused c =
-    let d = c in
-    let e : Refused c.in-Refused.refusal ≡ log_gamma_of d.args.x = rw (← d.argument_verdict-verdict.ensures, c.in-Refused.is) in
+returns c =
+    let e : c.valued.result ≡ log_gamma_of c.args.x = rw (← c.argument_checked.ensures, c.in_ok-argument_checked.was, ← c.value.ensures) c.valued.ensures in
     ap outcome_of e ∙ steps-outcome _

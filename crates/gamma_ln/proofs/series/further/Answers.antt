@@ -1,8 +1,8 @@
 -- `gamma_ln::series::further` meets its contract: before each turn the run that is left, from the state as it is, ends as the whole run
 -- does. Assumes nothing.
-use mathlib.Core.Path.{◌≡◌, refl, sym, ◌∙◌}
+use mathlib.Core.Path.{◌≡◌, refl, sym, ◌∙◌, subst}
 use mathlib.Core.Bool.{true, false}
-use Prim.Native.Nat.{◌-◌, ◌≤◌, ◌<◌}
+use Prim.Native.Nat.{ℕ, ◌-◌, ◌≤◌, ◌<◌}
 use native.Mathlib.Omega.{arith}
 use Rattle.laws.proofs.Run.{run-next, run-stop, run_end}
 use Rattle.gamma_ln.specs.Coefficients.{coefficients}
@@ -12,7 +12,7 @@ use Rattle.gamma_ln.proofs.series.further.Goals as goal
 
 pub loop-count-init : goal.loop-count-init
 unfolding further_of first_of
-loop-count-init c = (omega arith, refl)
+loop-count-init c = refl
 
 pub offset_bounds-coefficients-count : goal.offset_bounds-coefficients-count
 offset_bounds-coefficients-count c = omega arith
@@ -30,10 +30,7 @@ returns-then-is_below c =
     let n = l.count in
     let s : Terms = record { power = l.power; sum = l.sum; count = n } in
     let e : stop n s ≡ true = simp (← c.is_below.ensures, c.if-is_below.true) in
-    sym (l.invariant.1 ∙ run-stop stop (with_next a.square) (22 - n) n s e)
-
-pub loop-count-smaller : goal.loop-count-smaller
-loop-count-smaller c = omega arith
+    sym (l.invariant ∙ run-stop stop (with_next a.square) (22 - n) n s e)
 
 pub loop-count-preserved : goal.loop-count-preserved
 unfolding is_done with_next next_term next_power coefficients
@@ -46,7 +43,7 @@ loop-count-preserved c =
     let s : Terms = record { power = l.power; sum = l.sum; count = n } in
     let e : stop n s ≡ false = simp (← c.is_below.ensures, c.if-is_below.false) in
     let h : n < 22 = omega arith in
-    (omega arith, l.invariant.1 ∙ run-next stop (with_next a.square) 22 n s h e)
+    l.invariant ∙ run-next stop (with_next a.square) 22 n s h e
 
 pub returns : goal.returns
 returns c =
@@ -54,5 +51,7 @@ returns c =
     let a = c.args in
     let n = l.count in
     let s : Terms = record { power = l.power; sum = l.sum; count = n } in
+    let e : n ≡ 22 = omega arith in
     let h : 22 ≤ n = omega arith in
-    sym (l.invariant.1 ∙ run_end (is_done a.square a.bound) (with_next a.square) 22 n s h)
+    subst (λ (k : ℕ). ◌≡◌ {A = Terms} (record { power = l.power; sum = l.sum; count = k }) (further_of a.start a.first a.square a.bound)) e
+    (sym (l.invariant ∙ run_end (is_done a.square a.bound) (with_next a.square) 22 n s h))

@@ -1,5 +1,5 @@
 use mathlib.Core.Path.{◌≡◌}
-use Prim.Native.Nat.{ℕ, ◌-◌, ◌≤◌}
+use Prim.Native.Nat.{ℕ, ◌-◌}
 use lib.Ieee.{Float}
 use Rattle.laws.specs.Run.{run}
 use Rattle.gamma_ln.specs.declared.series.Terms.{Terms}
@@ -10,7 +10,4 @@ abbrev pub left : Float → Float → Float → Float → ℕ → Terms
 left square bound power sum count = run (is_done square bound) (with_next square) (22 - count) count (record { power = power; sum = sum; count = count })
 
 abbrev pub invariant-loop-count : goal.invariant-loop-count
-invariant-loop-count l = (l.count ≤ 22) × (further_of l.start l.first l.square l.bound ≡ left l.square l.bound l.power l.sum l.count)
-
-abbrev pub decreases-loop-count : goal.decreases-loop-count
-decreases-loop-count l = 22 - l.count
+invariant-loop-count l = further_of l.start l.first l.square l.bound ≡ left l.square l.bound l.power l.sum l.count

@@ -29,14 +29,14 @@ returns-then-is_plain c =
     let sum = d.single_n_iteration-sum in
     let value = sum.result.value in
     let square : turning.result ≡ turned_of a.turned (square_of a.modulus (times_real a.z half)) =
-    turning.ensures ∙ ap (turned_of a.turned) (d.square_of.ensures ∙ ap (square_of a.modulus) t.times_real-half.ensures) in
+    turning.ensures ∙ ap (turned_of a.turned) (d.square_of.ensures ∙ ap (square_of a.modulus) t.mul-half.ensures) in
     let is : sum.result ≡ sum_at a.turned a.order a.z a.modulus =
     sum.ensures ∙ ap (λ (w : Complex). sum_of (a.order ⊕ nothing) w (half_square a.modulus)) square ∙ sum_is a.turned a.order a.z a.modulus in
     let plain : Plain (modulus_of (times_real a.z half)) value =
-    subst (λ (x : Float). Plain x value) (c.modulus.ensures ∙ ap modulus_of t.times_real-half.ensures) (c.is_plain.ensures c.if-is_plain.true) in
+    subst (λ (x : Float). Plain x value) (c.modulus.ensures ∙ ap modulus_of t.mul-half.ensures) (c.is_plain.ensures c.if-is_plain.true) in
     let fine : T (fits binary64 a.order) = subst T (sym s.well_formed.1.0.1) tt in (
       alone-visited a.turned a.order a.z a.modulus fine s.requires.0 sum.result is plain,
-      pair-cells a.out.now value.re value.im s.requires.1 ∙ alone-written a.turned a.order a.z a.modulus fine s.requires.0 sum.result is plain,
+      c.put.ensures ∙ pair-cells a.out.now value.re value.im s.requires.1 ∙ alone-written a.turned a.order a.z a.modulus fine s.requires.0 sum.result is plain,
     )
 
 pub returns : goal.returns

@@ -9,7 +9,8 @@ use Rattle.machine.specs.Constants.{approximation_limit}
 use Rattle.complex.specs.declared.number.Complex.{Complex}
 use Rattle.series_step.specs.Setting.{order_at}
 use Rattle.power_series.specs.declared.visit.Standing.{Standing}
-use Rattle.power_series.specs.declared.pair.Pair.{Pair}
+use Rattle.series_sum.specs.declared.sums.Two.{Two}
+use Rattle.series_step.specs.declared.descent.Descent.{Descent}
 use Rattle.power_series.specs.Visit.{Visited}
 use Rattle.power_series.specs.shapes.Pair.{pair_of, Begun}
 use Rattle.power_series.proofs.WalkFacts.{walk-left, concluded-visit}
@@ -19,17 +20,17 @@ use Rattle.power_series.proofs.pair.downward.Goals as goal
 pub returns-then-n-lt2 : goal.returns-then-n-lt2
 returns-then-n-lt2 c =
     let e = c.stepwise.ensures in
-    (c.copied.ensures ∙ e.0, e.1)
+    (e.0, e.1)
 
 pub returns-then-first : goal.returns-then-first
 returns-then-first c =
     let e = c.stepwise-then-first.ensures in
-    (c.copied-then-first.ensures ∙ e.0, e.1)
+    (e.0, e.1)
 
 pub returns-then-second : goal.returns-then-second
 returns-then-second c =
     let e = c.stepwise-then-second.ensures in
-    (c.copied-then-second.ensures ∙ e.0, e.1)
+    (e.0, e.1)
 
 pub paired-r-requires : goal.paired-r-requires
 unfolding approximation_limit order_at
@@ -46,7 +47,7 @@ paired-r-requires c =
     c.seeds.ensures
     ∙ ap (λ (z : Complex). pair_of a.g n z second.result) first.ensures
     ∙ ap (λ (z : Complex). pair_of a.g n (lead_first a.g n) z) second.ensures in
-    (c.requires.0, c.requires.1, more, subst (λ (p : Pair). Begun a.g n p) (sym e) b)
+    (c.requires.0, c.requires.1, more, subst (λ (p : Two Descent). Begun a.g n p) (sym e) b)
 
 pub concluded-requires : goal.concluded-requires
 concluded-requires c =

@@ -10,10 +10,10 @@ pub kept-requires : goal.kept-requires
 unfolding marked_of
 kept-requires c =
     let s = c in
-    let m = c.marked-m in
+    let m = c.marked in
     let e : m.result.seeded ≡ s.args.s.seeded = ap (λ (q : Descent). q.seeded) m.ensures in
     omega (arith, s.requires)
 
 pub returns : goal.returns
 unfolding entered_of
-returns c = simp (c.kept.ensures, c.product.ensures, c.marked-m.ensures)
+returns c = simp (c.kept.ensures, c.mul.ensures, c.marked.ensures)

@@ -4,4 +4,4 @@ use Rattle.power_series.proofs.pair.rung.Goals as goal
 
 pub returns : goal.returns
 unfolding recurred_if recurred_of
-returns c = simp (c.requires.2, c.backward-next.ensures)
+returns c = simp (c.unmarked.ensures, c.requires.2, c.backward.ensures)

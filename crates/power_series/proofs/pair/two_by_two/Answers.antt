@@ -1,17 +1,17 @@
 -- `power_series::pair::two_by_two` meets its contract: before each pair of orders the run that is left, from the state and the cells as
 -- they are, ends as it did at first. Assumes nothing.
-use mathlib.Core.Path.{◌≡◌, sym, ◌∙◌, subst}
+use mathlib.Core.Path.{◌≡◌, refl, sym, ◌∙◌, subst}
 use mathlib.Core.List.{List}
 use Prim.Native.Nat.{ℕ, ◌+◌, ◌-◌, ◌*◌, ◌/◌, ◌%◌, ◌≤◌, ◌<◌}
 use native.Mathlib.Omega.{arith}
 use lib.Ieee.{Float}
-use lib.ListN.{length, length-set}
+use lib.ListN.{length, drop}
 use Rattle.series_step.specs.declared.setting.Setting.{Setting}
 use Rattle.series_step.specs.declared.descent.Descent.{Descent}
 use Rattle.series_step.specs.Recurred.{recurred_of}
 use Rattle.power_series.specs.Visit.{Walk}
-use Rattle.power_series.specs.shapes.Pair.{Settled}
-use Rattle.power_series.proofs.WalkFacts.{Walking, walking-from, walking-step, walking-end, walking-standing, walking-cells}
+use Rattle.power_series.specs.shapes.Pair.{Settled, walk_from}
+use Rattle.power_series.proofs.WalkFacts.{Walking, walking-from, walking-at, walking-end, walking-answer}
 use Rattle.power_series.proofs.PairFacts.{settled-step, settled-next}
 use Rattle.power_series.proofs.pair.two_by_two.Goals as goal
 
@@ -26,107 +26,45 @@ few {d = d} {left = left} {state = state} {out = out} even short t w =
     let same : length out ≡ length d = w.down.same in
     (omega arith, omega arith, omega arith)
 
--- after one order
+-- after one order, that of the index k
 settled :
-    (g : Setting) {n left : ℕ} {state next : Descent} → Settled n left state → 0 < left → next ≡ recurred_of g (left - 1) state → Settled n (left - 1) next
-settled g {n} {left} {state} t more e =
-    subst (λ (q : Descent). Settled n (left - 1) q) (sym e) (settled-next g (left - 1) state t more)
+    (g : Setting) {n left : ℕ} {state next : Descent} → Settled n left state → (k : ℕ) → k + 1 ≡ left → next ≡ recurred_of g k state → Settled n k next
+settled g {n} {left} {state} {next} t k e f =
+    let at-k : left - 1 ≡ k = omega arith in
+    let more : 0 < left = omega arith in
+    subst (λ (q : ℕ). Settled n q next) at-k (subst (λ (q : Descent). Settled n (left - 1) q) (sym f) (settled-next g k state t more))
 
-pub loop-left-init : goal.loop-left-init
-loop-left-init c = (c.requires.2, c.requires.3, walking-from _ _ _ _ _ (omega (arith, c.requires)) c.requires.3)
-
-pub overflow_sub-left : goal.overflow_sub-left
-overflow_sub-left c = omega arith
-
-pub overflow_cast-left : goal.overflow_cast-left
-overflow_cast-left c = omega (arith, few c.requires.0 c.requires.1 c.loop-left.invariant.1 c.loop-left.invariant.2)
-
-pub rung-s-requires : goal.rung-s-requires
-rung-s-requires c =
-    let f = few c.requires.0 c.requires.1 c.loop-left.invariant.1 c.loop-left.invariant.2 in
-    (omega (arith, f), omega (arith, f), c.loop-left.invariant.1.off)
-
-pub overflow_mul-out : goal.overflow_mul-out
-overflow_mul-out c = omega (arith, few c.requires.0 c.requires.1 c.loop-left.invariant.1 c.loop-left.invariant.2)
-
-pub overflow_add-out : goal.overflow_add-out
-overflow_add-out c = omega (arith, few c.requires.0 c.requires.1 c.loop-left.invariant.1 c.loop-left.invariant.2)
-
-pub offset_bounds-out-left : goal.offset_bounds-out-left
-offset_bounds-out-left c = omega (arith, few c.requires.0 c.requires.1 c.loop-left.invariant.1 c.loop-left.invariant.2)
-
-pub bounds-out-left : goal.bounds-out-left
-bounds-out-left c = omega (arith, few c.requires.0 c.requires.1 c.loop-left.invariant.1 c.loop-left.invariant.2)
-
-pub overflow_mul-out-in-loop-left : goal.overflow_mul-out-in-loop-left
-overflow_mul-out-in-loop-left c = omega (arith, few c.requires.0 c.requires.1 c.loop-left.invariant.1 c.loop-left.invariant.2)
-
-pub offset_bounds-out-left-in-loop-left : goal.offset_bounds-out-left-in-loop-left
-offset_bounds-out-left-in-loop-left c = omega (arith, few c.requires.0 c.requires.1 c.loop-left.invariant.1 c.loop-left.invariant.2)
-
-pub bounds-out-left-in-loop-left : goal.bounds-out-left-in-loop-left
-bounds-out-left-in-loop-left c = let f = few c.requires.0 c.requires.1 c.loop-left.invariant.1 c.loop-left.invariant.2 in simp length-set (omega (arith, f))
-
-pub overflow_sub-left-in-loop-left : goal.overflow_sub-left-in-loop-left
-overflow_sub-left-in-loop-left c = omega arith
-
-pub overflow_cast-left-in-loop-left : goal.overflow_cast-left-in-loop-left
-overflow_cast-left-in-loop-left c = omega (arith, few c.requires.0 c.requires.1 c.loop-left.invariant.1 c.loop-left.invariant.2)
-
--- after one order
+pub loop-pair-init : goal.loop-pair-init
+loop-pair-init c =
+    let a = c.args in
+    let d = a.out.now in
+    let n = length d / 2 in
+    let even : a.most ≡ a.most / 2 * 2 = omega (arith, c.requires) in
+    subst (λ (q : ℕ). Settled n q a.settled × Walking a.g (walk_from a.g n a.most a.settled (drop (a.most * 2) d)) d n q a.settled d) even
+    (c.requires.3, walking-from _ _ _ _ _ (omega (arith, c.requires)) c.requires.3)
 
 pub rung-state-requires : goal.rung-state-requires
 rung-state-requires c =
-    let s = c in
-    let t = settled _ c.loop-left.invariant.1 (omega arith) c.rung-s.ensures in
+    let l = c.loop-pair in
+    let f = few c.requires.0 c.requires.1 l.invariant.0 l.invariant.1 in
+    let t = settled _ l.invariant.0 ((l.pair - 1) * 2 + 1) (omega arith) c.rung-s.ensures in
     let rungs = t.rungs in
-    (omega (arith, few c.requires.0 c.requires.1 c.loop-left.invariant.1 c.loop-left.invariant.2), omega (arith, s.requires, rungs), t.off)
+    (omega (arith, f), omega (arith, c.requires, rungs), t.off)
 
-pub overflow_mul-out-in-loop-left-2 : goal.overflow_mul-out-in-loop-left-2
-overflow_mul-out-in-loop-left-2 c = omega (arith, few c.requires.0 c.requires.1 c.loop-left.invariant.1 c.loop-left.invariant.2)
-
-pub overflow_add-out-in-loop-left : goal.overflow_add-out-in-loop-left
-overflow_add-out-in-loop-left c = omega (arith, few c.requires.0 c.requires.1 c.loop-left.invariant.1 c.loop-left.invariant.2)
-
-pub offset_bounds-out-left-in-loop-left-2 : goal.offset_bounds-out-left-in-loop-left-2
-offset_bounds-out-left-in-loop-left-2 c = omega (arith, few c.requires.0 c.requires.1 c.loop-left.invariant.1 c.loop-left.invariant.2)
-
-pub bounds-out-left-in-loop-left-2 : goal.bounds-out-left-in-loop-left-2
-bounds-out-left-in-loop-left-2 c = let f = few c.requires.0 c.requires.1 c.loop-left.invariant.1 c.loop-left.invariant.2 in simp length-set (omega (arith, f))
-
-pub overflow_mul-out-in-loop-left-3 : goal.overflow_mul-out-in-loop-left-3
-overflow_mul-out-in-loop-left-3 c = omega (arith, few c.requires.0 c.requires.1 c.loop-left.invariant.1 c.loop-left.invariant.2)
-
-pub offset_bounds-out-left-in-loop-left-3 : goal.offset_bounds-out-left-in-loop-left-3
-offset_bounds-out-left-in-loop-left-3 c = omega (arith, few c.requires.0 c.requires.1 c.loop-left.invariant.1 c.loop-left.invariant.2)
-
-pub bounds-out-left-in-loop-left-3 : goal.bounds-out-left-in-loop-left-3
-bounds-out-left-in-loop-left-3 c = let f = few c.requires.0 c.requires.1 c.loop-left.invariant.1 c.loop-left.invariant.2 in simp length-set (omega (arith, f))
-
-pub loop-left-smaller : goal.loop-left-smaller
-loop-left-smaller c = omega arith
-
-pub loop-left-preserved : goal.loop-left-preserved
-loop-left-preserved c =
-    let d = c in
-    let l = d.loop-left in
-    let n = length d.args.out.now / 2 in
-    let a = d.rung-s in
+pub loop-pair-preserved : goal.loop-pair-preserved
+loop-pair-preserved c =
+    let l = c.loop-pair in
+    let k = (l.pair - 1) * 2 in
+    let a = c.rung-s in
     let b = c.rung-state in
-    let t = settled _ l.invariant.1 (omega arith) a.ensures in
-    let more : 0 < l.left = omega arith in
-    let most : 0 < l.left - 1 = omega arith in
+    let t = settled _ l.invariant.0 (k + 1) (omega arith) a.ensures in
     let first =
-    walking-step _ _ _ l.invariant.2 a.result (a.ensures ∙ sym (settled-step _ (l.left - 1) l.state l.invariant.1.seeded)) more l.invariant.1.goes in
-    let second = walking-step _ _ _ first b.result (b.ensures ∙ sym (settled-step _ (l.left - 1 - 1) a.result t.seeded)) most t.goes in
-    (omega arith, subst (λ (q : Descent). Settled n (l.left - 1 - 1) q) (sym b.ensures) (settled-next _ (l.left - 1 - 1) a.result t most), second)
-
-pub shape_of-out : goal.shape_of-out
-shape_of-out c = c.loop-left.invariant.2.down.same
+    walking-at _ _ _ l.invariant.1 (k + 1) (omega arith) a.result (a.ensures ∙ sym (settled-step _ (k + 1) l.state l.invariant.0.seeded)) l.invariant.0.goes _ c.put.ensures in
+    let second = walking-at _ _ _ first k refl b.result (b.ensures ∙ sym (settled-step _ k a.result t.seeded)) t.goes _ c.put-in-loop-pair.ensures in
+    (settled _ t k refl b.ensures, second)
 
 pub returns : goal.returns
 returns c =
-    let l = c.loop-left in
-    let w = l.invariant.2 in
-    let e = walking-end _ _ _ w (omega (arith, l.invariant.0)) in
-    (walking-standing _ _ _ w e, walking-cells _ _ _ w e)
+    let w = c.loop-pair.invariant.1 in
+    let e : c.loop-pair.pair * 2 ≡ 0 = omega arith in
+    walking-answer _ _ _ w (walking-end _ _ _ w e) 0 e

@@ -1,13 +1,9 @@
-use mathlib.Core.Path.{◌≡◌}
-use Prim.Native.Nat.{◌*◌, ◌/◌, ◌%◌}
+use Prim.Native.Nat.{◌*◌, ◌/◌}
 use lib.ListN.{length, drop}
 use Rattle.power_series.specs.shapes.Pair.{Settled, walk_from}
 use Rattle.power_series.proofs.WalkFacts.{Walking}
 use Rattle.power_series.proofs.pair.two_by_two.Given as goal
 
-abbrev pub invariant-loop-left : goal.invariant-loop-left
-invariant-loop-left l =
-    (l.left % 2 ≡ 0) × Settled (length l.initial.out / 2) l.left l.state × Walking l.g (walk_from l.g (length l.initial.out / 2) l.most l.initial.state (drop (l.most * 2) l.initial.out)) l.initial.out (length l.initial.out / 2) l.left l.state l.out
-
-abbrev pub decreases-loop-left : goal.decreases-loop-left
-decreases-loop-left l = l.left
+abbrev pub invariant-loop-pair : goal.invariant-loop-pair
+invariant-loop-pair l =
+    Settled (length l.initial.out / 2) (l.pair * 2) l.state × Walking l.g (walk_from l.g (length l.initial.out / 2) l.most l.initial.state (drop (l.most * 2) l.initial.out)) l.initial.out (length l.initial.out / 2) (l.pair * 2) l.state l.out

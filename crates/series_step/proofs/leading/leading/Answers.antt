@@ -6,10 +6,10 @@ pub returns-then-g : goal.returns-then-g
 unfolding lowered_if leading_of
 returns-then-g c =
     let d = c in
-    simp (c.minus_real.ensures, c.if-g.true, d.minus_real-lead.ensures, d.times_real.ensures, d.value-below.ensures)
+    simp (c.sub.ensures, c.if-g.true, d.sub-lead.ensures, d.mul.ensures, d.value-below.ensures)
 
 pub returns : goal.returns
 unfolding lowered_if leading_of
 returns c =
     let d = c in
-    simp (c.if-g.false, d.minus_real-lead.ensures, d.times_real.ensures, d.value-below.ensures)
+    simp (c.if-g.false, d.sub-lead.ensures, d.mul.ensures, d.value-below.ensures)

@@ -1,12 +1,17 @@
--- `series_step::mark::longest` meets its contract: the sum is the longest, or not. Assumes nothing.
-use borrow.Author.Tests.{lt-ltb, le-ltb}
+-- `series_step::mark::longest` meets its contract: the larger of two numbers is the one that the test picks. Assumes nothing.
+use mathlib.Core.Path.{◌≡◌, refl, ◌∙◌}
+use mathlib.Core.Bool.{Bool, true, false, cond}
+use Prim.Native.Nat.{ℕ, ◌≤◌, ◌<◌, max}
+use Rattle.std.specs.Prelude.{ltb}
+use native.Mathlib.Omega.{arith}
+use borrow.Author.Tests.{ltb-true, ltb-false}
 use Rattle.series_step.specs.Mark.{longest_of}
 use Rattle.series_step.proofs.mark.longest.Goals as goal
 
-pub returns-then-longest_sum-terms : goal.returns-then-longest_sum-terms
-unfolding longest_of
-returns-then-longest_sum-terms c = simp (lt-ltb _ _ c.if-longest_sum-terms.true)
+picked : (a b : ℕ) (t : Bool) → ltb a b ≡ t → max a b ≡ cond t b a
+picked a b true e = let h : a < b = ltb-true a b e in omega arith
+picked a b false e = let h : b ≤ a = ltb-false a b e in omega arith
 
 pub returns : goal.returns
 unfolding longest_of
-returns c = simp (le-ltb _ _ c.if-longest_sum-terms.false)
+returns c = c.max.ensures ∙ picked _ _ _ refl

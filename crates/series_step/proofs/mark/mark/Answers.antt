@@ -7,6 +7,6 @@ pub returns-then-exponent : goal.returns-then-exponent
 unfolding approximation_limit mark_of
 returns-then-exponent c = simp c.if-exponent.true
 
-pub returns : goal.returns
+pub returns-else-exponent : goal.returns-else-exponent
 unfolding approximation_limit mark_of
-returns c = simp c.if-exponent.false
+returns-else-exponent c = simp c.if-exponent.false

@@ -6,10 +6,10 @@ pub returns-then-g : goal.returns-then-g
 unfolding backward_if backward_of
 returns-then-g c =
     let d = c in
-    simp (c.minus.ensures, c.if-g.true, d.times_real-product.ensures, d.product.ensures)
+    simp (c.sub.ensures, c.if-g.true, d.mul-product.ensures, d.mul.ensures)
 
 pub returns : goal.returns
 unfolding backward_if backward_of
 returns c =
     let d = c in
-    simp (c.plus.ensures, c.if-g.false, d.times_real-product.ensures, d.product.ensures)
+    simp (c.add.ensures, c.if-g.false, d.mul-product.ensures, d.mul.ensures)

@@ -9,5 +9,7 @@ returns-then-s c =
     simp (c.under_mark.ensures, c.if-s.true, d.backward-next.ensures)
 
 pub returns : goal.returns
-unfolding recurred_if recurred_of
-returns c = simp (c.if-s.false, c.backward-next.ensures)
+unfolding recurred_of
+returns c =
+    let d = c in
+    simp (c.unmarked.ensures, c.if-s.false, d.backward-next.ensures)

@@ -7,10 +7,10 @@ pub returns-then-modulus : goal.returns-then-modulus
 unfolding absolute_approximation_limit cleared_if under_mark
 returns-then-modulus c =
     let d = c in
-    rw (← d.times_real-entry.ensures, ← d.modulus.ensures, c.if-modulus.true)
+    rw (← d.mul-entry.ensures, ← d.modulus.ensures, c.if-modulus.true)
 
 pub returns : goal.returns
 unfolding absolute_approximation_limit cleared_if under_mark
 returns c =
     let d = c in
-    rw (← d.times_real-entry.ensures, ← d.modulus.ensures, c.if-modulus.false)
+    rw (← d.mul-entry.ensures, ← d.modulus.ensures, c.if-modulus.false)

@@ -5,7 +5,7 @@ use Rattle.series_step.proofs.seed.coefficient.Goals as goal
 
 pub returns-then-near_underflow : goal.returns-then-near_underflow
 unfolding inverse_tolerance coefficient_if coefficient_of
-returns-then-near_underflow c = simp (c.times_real.ensures, c.if-near_underflow.true, c.exp-whole.ensures)
+returns-then-near_underflow c = simp (c.mul.ensures, c.if-near_underflow.true, c.exp-whole.ensures)
 
 pub returns : goal.returns
 unfolding coefficient_if coefficient_of

@@ -6,6 +6,6 @@ pub returns-then-near_underflow : goal.returns-then-near_underflow
 unfolding is_gone
 returns-then-near_underflow c = simp (c.lost.ensures, c.if-near_underflow.true)
 
-pub returns : goal.returns
+pub returns-else-near_underflow : goal.returns-else-near_underflow
 unfolding is_gone
-returns c = simp c.if-near_underflow.false
+returns-else-near_underflow c = simp c.if-near_underflow.false

@@ -6,4 +6,4 @@ pub returns : goal.returns
 unfolding kept_of
 returns c =
     let d = c in
-    simp (d.times_real.ensures, d.seed_or-2.ensures, d.seed_or.ensures)
+    simp (d.mul.ensures, d.seed_or-2.ensures, d.seed_or.ensures)

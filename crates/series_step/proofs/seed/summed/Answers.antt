@@ -19,7 +19,7 @@ unfolding gone_if summed_of
 returns-then-is_gone c =
     let d = c in
     rw (← d.single_n_iteration-sum.ensures)
-    (rw (← d.marked-m.ensures, ← d.coefficient.ensures, ← c.product-value.ensures, ← c.is_gone.ensures, c.if-is_gone.true) c.zeroed.ensures)
+    (rw (← d.marked-m.ensures, ← d.coefficient.ensures, ← c.mul-value.ensures, ← c.is_gone.ensures, c.if-is_gone.true) c.zeroed.ensures)
 
 pub kept-requires : goal.kept-requires
 unfolding marked_of
@@ -34,4 +34,4 @@ unfolding gone_if summed_of
 returns c =
     let d = c in
     rw (← d.single_n_iteration-sum.ensures)
-    (rw (← d.marked-m.ensures, ← d.coefficient.ensures, ← c.product-value.ensures, ← c.is_gone.ensures, c.if-is_gone.false) c.kept.ensures)
+    (rw (← d.marked-m.ensures, ← d.coefficient.ensures, ← c.mul-value.ensures, ← c.is_gone.ensures, c.if-is_gone.false) c.kept.ensures)

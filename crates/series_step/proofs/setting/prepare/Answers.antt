@@ -6,4 +6,4 @@ pub returns : goal.returns
 unfolding half_square setting_of
 returns c =
     let d = c in
-    simp (c.ln.ensures, c.two_over_with.ensures, d.turn.ensures, d.square_of.ensures, d.times_real-half.ensures)
+    simp (c.ln.ensures, c.two_over_with.ensures, d.turn.ensures, d.square_of.ensures, d.mul-half.ensures)

@@ -4,7 +4,7 @@ use Rattle.series_step.proofs.setting.turn.Goals as goal
 
 pub returns-then-turned : goal.returns-then-turned
 unfolding turned_of
-returns-then-turned c = simp (c.opposite.ensures, c.if-turned.true)
+returns-then-turned c = simp (c.neg.ensures, c.if-turned.true)
 
 pub returns : goal.returns
 unfolding turned_of

@@ -12,8 +12,8 @@ pub returns-then-abs_half_z_sq-order_plus_one : goal.returns-then-abs_half_z_sq-
 unfolding tolerance sum_is_one sum_unless sum_of
 returns-then-abs_half_z_sq-order_plus_one c = simp c.if-abs_half_z_sq-order_plus_one.true
 
-pub finish-s-requires : goal.finish-s-requires
-finish-s-requires c =
+pub finish-requires : goal.finish-requires
+finish-requires c =
     let t = ap (λ (p : Partial). p.terms) c.start.ensures ∙ terms-start _ in
     omega arith
 
@@ -21,5 +21,5 @@ pub returns : goal.returns
 unfolding tolerance sum_tolerance sum_is_one sum_unless sum_of
 returns c =
     let d = c in
-    let e = c.finish-s.ensures ∙ ap (sum_rest _ _ _) d.start.ensures ∙ sym (rest-start _ _ _ _) in
-    simp (d.if-abs_half_z_sq-order_plus_one.false, e)
+    let e = c.finish.ensures ∙ ap (sum_rest _ _ _) d.start.ensures ∙ sym (rest-start _ _ _ _) in
+    c.from.ensures ∙ simp (d.if-abs_half_z_sq-order_plus_one.false, e)

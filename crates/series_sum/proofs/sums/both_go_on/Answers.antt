@@ -11,6 +11,6 @@ returns-then-a-t c =
     let a = c.args in
     sym (ap (λ (b : Bool). b && lt a.t.lower a.lower.estimate.error) c.if-a-t.true)
 
-pub returns : goal.returns
+pub returns-else-a-t : goal.returns-else-a-t
 unfolding both_go_on
-returns c = simp c.if-a-t.false
+returns-else-a-t c = simp c.if-a-t.false

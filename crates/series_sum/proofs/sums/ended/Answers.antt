@@ -5,7 +5,7 @@ use Rattle.series_sum.proofs.SumRun.{rest-stop}
 use Rattle.series_sum.proofs.sums.ended.Goals as goal
 
 pub returns-then-e-tolerance : goal.returns-then-e-tolerance
-returns-then-e-tolerance c = c.outcome.ensures ∙ ap outcome_of c.finish.ensures
+returns-then-e-tolerance c = c.from.ensures ∙ ap outcome_of c.finish.ensures
 
 pub returns : goal.returns
-returns c = c.outcome-2.ensures ∙ ap outcome_of (sym (rest-stop _ _ _ _ c.if-e-tolerance.false))
+returns c = c.from-2.ensures ∙ ap outcome_of (sym (rest-stop _ _ _ _ c.if-e-tolerance.false))

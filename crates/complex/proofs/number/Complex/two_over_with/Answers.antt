@@ -4,4 +4,4 @@ use Rattle.complex.proofs.number.Complex.two_over_with.Goals as goal
 
 pub returns : goal.returns
 unfolding two_over_with
-returns c = simp (c.times_real.ensures, c.plus.ensures, c.times_real-s.ensures, c.conjugate.ensures)
+returns c = simp (c.mul.ensures, c.add.ensures, c.mul-s.ensures, c.conjugate.ensures)

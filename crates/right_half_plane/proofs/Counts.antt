@@ -11,10 +11,10 @@ use Rattle.machine.specs.Small.{one}
 use Rattle.complex.specs.declared.number.Complex.{Complex}
 use Rattle.refusal.specs.declared.refusal.Refusal.TheVariants as refusals
 use Rattle.recurrence.specs.Climb.{climb_from}
-use Rattle.recurrence.specs.Trial.{failed_trial}
+use Rattle.recurrence.specs.Trial.{value_of, failed_trial}
 use Rattle.recurrence.specs.Search.{is_found, search_at, search_from}
 use Rattle.recurrence.specs.declared.search.Search.{Search}
-use Rattle.recurrence.specs.declared.search.Rule.TheVariants.{OutOfUnderflow}
+use Rattle.recurrence.specs.Rule.{OutOfUnderflow}
 use Rattle.recurrence.specs.declared.state.OverflowState.TheVariants.{NearUnder}
 use Rattle.recurrence.specs.declared.state.Climb.{Climb}
 use Rattle.recurrence.proofs.ClimbFacts.{rungs-climbed}
@@ -42,9 +42,9 @@ Resumes steps (recovered.Refused refusal) = refusal ≡ refusals.Climb
 
 settled-resumes : (steps : ℕ) (s : Search) → s.rungs ≤ steps → Resumes steps (settled_of s)
 unfolding settled_of neighbours_of
-settled-resumes steps s h = go (is_found s) (is_zero_pair s.before.value || is_zero_pair s.latest.value)
+settled-resumes steps s h = go (is_found s) (is_zero_pair (value_of s.before) || is_zero_pair (value_of s.latest))
   where
-    go : (a b : Bool) → Resumes steps (cond a (cond b (recovered.Refused refusals.Climb) (recovered.Neighbours (record { climb = record { older = s.before.value; newer = s.latest.value; state = NearUnder; rungs = s.rungs }; next_offset = s.rungs + 2 }))) (recovered.Refused refusals.Climb))
+    go : (a b : Bool) → Resumes steps (cond a (cond b (recovered.Refused refusals.Climb) (recovered.Neighbours (record { climb = record { older = value_of s.before; newer = value_of s.latest; state = NearUnder; rungs = s.rungs }; next_offset = s.rungs + 2 }))) (recovered.Refused refusals.Climb))
     go false b = refl
     go true true = refl
     go true false = (h, refl)

@@ -13,10 +13,10 @@ use Rattle.roots.specs.Sqrt.{sqrt_of}
 use Rattle.refusal.specs.Number.{number_of}
 use Rattle.refusal.specs.declared.refusal.Refusal.{Refusal}
 use Rattle.refusal.specs.declared.refusal.Refusal.TheVariants as refusals
-use Rattle.recurrence.specs.Trial.{failed_trial}
+use Rattle.recurrence.specs.Trial.{kept, value_of, failed_trial}
 use Rattle.recurrence.specs.Search.{is_found, search_at}
 use Rattle.recurrence.specs.declared.search.Search.{Search}
-use Rattle.recurrence.specs.declared.search.Rule.TheVariants.{OutOfUnderflow}
+use Rattle.recurrence.specs.Rule.{OutOfUnderflow}
 use Rattle.recurrence.specs.declared.state.OverflowState.TheVariants.{NearUnder}
 use Rattle.recurrence.specs.declared.state.Climb.{Climb}
 use Rattle.recurrence.proofs.SearchFacts.{search-ends}
@@ -112,10 +112,10 @@ module _ (g : Ground) (s : Seeded) where
 
   settled-exactly : (r : Search) → stops (settled_of r) ≡ (no_neighbours r || a_zero_pair r)
   unfolding settled_of neighbours_of is_found no_neighbours a_zero_pair
-  settled-exactly r = go (r.before.kept && r.latest.kept) (is_zero_pair r.before.value || is_zero_pair r.latest.value)
+  settled-exactly r = go (kept r.before && kept r.latest) (is_zero_pair (value_of r.before) || is_zero_pair (value_of r.latest))
     where
       n : Recovered
-      n = recovered.Neighbours (record { climb = record { older = r.before.value; newer = r.latest.value; state = NearUnder; rungs = r.rungs }; next_offset = r.rungs + 2 })
+      n = recovered.Neighbours (record { climb = record { older = value_of r.before; newer = value_of r.latest; state = NearUnder; rungs = r.rungs }; next_offset = r.rungs + 2 })
 
       go : (f z : Bool) → stops (cond f (cond z (recovered.Refused refusals.Climb) n) (recovered.Refused refusals.Climb)) ≡ (not f || z)
       go true true = refl

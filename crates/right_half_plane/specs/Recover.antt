@@ -4,11 +4,11 @@ use Rattle.std.specs.Prelude.{ℕ, ◌+◌, Bool, ◌&&◌, ◌||◌, cond, Floa
 use Rattle.std.specs.Float.Ieee.{eq}
 use Rattle.machine.specs.Small.{nothing}
 use Rattle.complex.specs.declared.number.Complex.{Complex}
-use Rattle.recurrence.specs.Trial.{failed_trial}
+use Rattle.recurrence.specs.Trial.{value_of, failed_trial}
 use Rattle.recurrence.specs.Search.{is_found, search_at, search_from}
 use Rattle.recurrence.specs.declared.state.OverflowState.TheVariants.{NearUnder}
 use Rattle.recurrence.specs.declared.search.Search.{Search}
-use Rattle.recurrence.specs.declared.search.Rule.TheVariants.{OutOfUnderflow}
+use Rattle.recurrence.specs.Rule.{OutOfUnderflow}
 use Rattle.refusal.specs.declared.refusal.Refusal.TheVariants.{Climb}
 use Rattle.right_half_plane.specs.declared.recover.Recovered.{Recovered}
 use Rattle.right_half_plane.specs.declared.recover.Recovered.TheVariants.{Neighbours, Refused}
@@ -19,8 +19,8 @@ is_zero_pair w = eq w.re nothing && eq w.im nothing
 -- refusal 7: one of the two is zero in both parts. The rung i stands at the offset i + 1, so the climb resumes two behind the rungs
 unfoldable pub neighbours_of : Search → Recovered
 neighbours_of s =
-    let older = s.before.value in
-    let newer = s.latest.value in
+    let older = value_of s.before in
+    let newer = value_of s.latest in
     cond (is_zero_pair older || is_zero_pair newer)
     (Refused Climb)
     (Neighbours (record { climb = record { older = older; newer = newer; state = NearUnder; rungs = s.rungs }; next_offset = s.rungs + 2 }))

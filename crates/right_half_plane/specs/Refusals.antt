@@ -5,10 +5,10 @@ use Rattle.machine.specs.Small.{two}
 use Rattle.roots.specs.Sqrt.{sqrt_of}
 use Rattle.complex.specs.declared.number.Complex.{Complex}
 use Rattle.complex.specs.Functions.{argument_of}
-use Rattle.recurrence.specs.Trial.{failed_trial}
+use Rattle.recurrence.specs.Trial.{kept, value_of, failed_trial}
 use Rattle.recurrence.specs.Search.{search_at, search_from}
 use Rattle.recurrence.specs.declared.search.Search.{Search}
-use Rattle.recurrence.specs.declared.search.Rule.TheVariants.{OutOfUnderflow}
+use Rattle.recurrence.specs.Rule.{OutOfUnderflow}
 use Rattle.miller.specs.NoStart.{no_start}
 use Rattle.right_half_plane.specs.declared.ground.Ground.{Ground}
 use Rattle.right_half_plane.specs.declared.seeds.Seeds.{Seeds}
@@ -41,11 +41,11 @@ climb_end g first second =
 
 -- all offsets without two neighbouring values on scale
 unfoldable pub no_neighbours : Search → Bool
-no_neighbours s = not (s.before.kept && s.latest.kept)
+no_neighbours s = not (kept s.before && kept s.latest)
 
 -- one of the two that it took is zero in both parts
 unfoldable pub a_zero_pair : Search → Bool
-a_zero_pair s = is_zero_pair s.before.value || is_zero_pair s.latest.value
+a_zero_pair s = is_zero_pair (value_of s.before) || is_zero_pair (value_of s.latest)
 
 -- refusal 7, from the two seeds
 unfoldable pub climb_fails : Ground → Seeded → Seeds → Bool

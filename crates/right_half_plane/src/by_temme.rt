@@ -8,7 +8,7 @@ use crate::seeds::{Seeded, Seeds};
 use complex::number::Complex;
 use machine::constants::Machine;
 use machine::magnitude::magnitude;
-use recurrence::state::{OverflowState, scale};
+use recurrence::state::OverflowState;
 use temme::seeds::Temme;
 
 // a large sinh μ over the fraction tells that the climb may overflow
@@ -70,7 +70,7 @@ pub fn temme_seeds(g: Ground, scaled: bool) -> Seeded
     }
     let state = growth_state(g.order, t.shinc);
     Seeded {
-        seeds: temme_pair(g, scaled, growth, scale(state), t),
+        seeds: temme_pair(g, scaled, growth, state.scale(), t),
         state,
         underflow: false,
         terms,

@@ -8,7 +8,7 @@ use crate::ground::Ground;
 use complex::number::Complex;
 use machine::constants::Machine;
 use recurrence::first::first_orders;
-use recurrence::state::{Climb, OverflowState, reciprocal};
+use recurrence::state::{Climb, OverflowState};
 
 #[derive(Clone, Copy)]
 pub struct Lead {
@@ -25,7 +25,7 @@ pub fn on_scale_lead(c: Climb) -> Lead
     let older = c.older;
     let newer = c.newer;
     let state = c.state;
-    let factor = reciprocal(state);
+    let factor = state.reciprocal();
     Lead {
         zeros: 0,
         first: older.times_real(factor),

@@ -5,10 +5,9 @@
 ghost use Rattle.std.specs.Prelude.{◌≡◌, ◌≤◌};
 ghost use Rattle.right_half_plane.specs.Recover.{is_zero_pair, neighbours_of, settled_of, recover_of};
 
-use complex::number::Complex;
-use recurrence::search::{Rule, Search, is_found, search_at, search_from};
+use complex::number::{Complex, zero_pair};
+use recurrence::search::{Search, is_found, lowers_out_of_underflow, search_at, search_from};
 use recurrence::state::{Climb, OverflowState};
-use recurrence::trial::failed;
 use refusal::refusal::Refusal;
 
 // Two neighbours on the scale of NearUnder, and the offset at which the plain climb resumes.
@@ -38,10 +37,8 @@ fn neighbours(s: Search) -> Recovered
     requires { s.rungs ≤ 1000 }
     ensures { result ≡ neighbours_of s }
 {
-    let before = s.before;
-    let latest = s.latest;
-    let older = before.value;
-    let newer = latest.value;
+    let older = s.before.unwrap_or(zero_pair());
+    let newer = s.latest.unwrap_or(zero_pair());
     if is_zero(older) {
         return Recovered::Refused(Refusal::Climb);
     }
@@ -80,6 +77,6 @@ pub fn recover(
     requires { steps ≤ 1000 }
     ensures { result ≡ recover_of fraction two_over_z z steps first second }
 {
-    let start = search_at(z, first, second, failed(), failed());
-    settled(search_from(Rule::OutOfUnderflow, fraction, two_over_z, steps, start))
+    let start = search_at(z, first, second, None, None);
+    settled(search_from(lowers_out_of_underflow, fraction, two_over_z, steps, start))
 }

@@ -3,7 +3,7 @@ use mathlib.Core.Path.{◌≡◌, refl, sym, ap, ◌∙◌}
 use mathlib.Core.List.{List, [], ◌∷◌, ◌++◌}
 use Prim.Native.Nat.{ℕ, suc, ◌+◌, ◌-◌, ◌*◌, ◌/◌, ◌%◌, ◌≤◌, ◌<◌}
 use native.Mathlib.Omega.{arith}
-use lib.ListN.{length, set, take, replicate, length-set, length-append, length-replicate}
+use lib.ListN.{length, set, take, replicate, length-set, length-replicate}
 use lib.Ieee.{Float, binary64, of_bits}
 use borrow.Rule.Slice.PartMut.{mid_of, post_of, put_mid}
 use Rattle.laws.specs.Operators.{◌⊖◌}
@@ -12,7 +12,6 @@ use Rattle.laws.proofs.Part.{front_length, rest-length, put_rest, put_both, both
 use Rattle.machine.specs.Small.{one}
 use Rattle.recurrence.specs.Fill.{fill_from}
 use Rattle.recurrence.specs.declared.state.Climb.{Climb}
-use Rattle.recurrence.proofs.FillFacts.{fill-length}
 use Rattle.right_half_plane.specs.declared.ground.Ground.{Ground}
 use Rattle.right_half_plane.specs.declared.lead.Lead.{Lead}
 use Rattle.right_half_plane.specs.Kernel.{rest_of, lead_cells}

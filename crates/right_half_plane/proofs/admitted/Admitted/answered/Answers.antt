@@ -1,9 +1,7 @@
 -- `Admitted::answered` meets its contract: the zeros, and then the rest. Assumes nothing.
 use mathlib.Core.Path.{ap}
 use Prim.Native.Nat.{ℕ}
-use Rattle.std.specs.Prelude.{Result, Ok}
-use Rattle.refusal.specs.declared.refusal.Refusal.{Refusal}
-use Rattle.right_half_plane.specs.declared.kernel.Counts.{Counts}
+use Rattle.std.specs.Prelude.{Ok}
 use Rattle.right_half_plane.specs.Kernel.{lead_kernel}
 use Rattle.right_half_plane.proofs.CellFacts.{delivered-cells, delivered-rungs}
 use Rattle.right_half_plane.proofs.admitted.Admitted.answered.Goals as goal

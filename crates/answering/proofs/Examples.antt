@@ -7,6 +7,7 @@ use borrow.Author.Tests.{eqb-false}
 use lib.IntN.{pos}
 use lib.ListN.{replicate}
 use lib.Ieee.{Float, binary64, of_bits, to_bits, of_int, round, size, neg, add, mul, eq, le, lt}
+use Rattle.std.proofs.Common.{Some}
 use Rattle.machine.specs.Constants.{underflow_limit}
 use Rattle.refusal.specs.declared.refusal.Refusal.TheVariants as refusals
 use Rattle.roots.specs.Hypot.{hypot_of}
@@ -18,13 +19,10 @@ use Rattle.power_series.specs.Tiny.{lowest_of, zeros_of, tiny_of}
 use Rattle.power_series.specs.Series.{power_series_if, power_series_of}
 use Rattle.cells.specs.AllFinite.{all_finite}
 use Rattle.call.specs.declared.kind.Kind.TheVariants.{K, I}
-use Rattle.call.specs.declared.checks.Verdict.{Verdict}
-use Rattle.call.specs.declared.checks.Verdict.TheVariants.{Admitted, Refused}
 use Rattle.call.specs.Answer.{answered_of, refused_of}
 use Rattle.call.specs.Limits.{normalised_of, length_inside, are_finite, order_inside, sign_inside, part_inside, size_inside, is_zero}
-use Rattle.call.specs.Checks.{refused_if, verdict_from, verdict_of, length_checks, finite_checks, limit_checks}
+use Rattle.call.specs.Checks.{Verdict, Admitted, Refused, refused_if, verdict_from, verdict_of, length_checks, finite_checks, limit_checks}
 use Rattle.frame.specs.declared.asking.Asking.{Asking}
-use Rattle.frame.specs.declared.asking.Parsed.TheVariants.{Asked}
 use Rattle.frame.specs.Digits.{is_digit, are_digits, worth_of, number_from, number_of, digit_of, spelled_of}
 use Rattle.frame.specs.Asking.{fields_of, framed_of, asking_of, asked_of, asked_in, parsed_of}
 use Rattle.frame.specs.Writing.{twos_complement, spelled_record, record_of, cells_of, line_of}
@@ -71,7 +69,7 @@ first = 48 ∷ 50 ∷ noughts 5 ++ (50 ∷ noughts 48)
 abbrev asking : Asking
 asking = record { kind = I; scaled = false; count = 2; v = nought; re = nought; im = nought }
 
-first-parsed : parsed_of first ≡ Asked asking
+first-parsed : parsed_of first ≡ Some asking
 unfolding parsed_of framed_of asked_in are_digits is_digit worth_of fields_of number_of number_from asked_of asking_of
 first-parsed = refl
 
@@ -103,7 +101,7 @@ second = 48 ∷ 49 ∷ noughts 5 ++ (49 ∷ noughts 48)
 abbrev asking-k : Asking
 asking-k = record { kind = K; scaled = false; count = 1; v = nought; re = nought; im = nought }
 
-second-parsed : parsed_of second ≡ Asked asking-k
+second-parsed : parsed_of second ≡ Some asking-k
 unfolding parsed_of framed_of asked_in are_digits is_digit worth_of fields_of number_of number_from asked_of asking_of
 second-parsed = refl
 

@@ -12,11 +12,9 @@ use Rattle.refusal.specs.declared.refusal.Refusal.{Refusal}
 use Rattle.refusal.specs.declared.refusal.Refusal.TheVariants.{Length}
 use Rattle.call.specs.declared.kind.Kind.{Kind}
 use Rattle.call.specs.declared.kind.Kind.TheVariants.{K, I}
-use Rattle.call.specs.declared.checks.Verdict.{Verdict}
-use Rattle.call.specs.declared.checks.Verdict.TheVariants.{Refused}
 use Rattle.call.specs.Answer.{refused_of}
 use Rattle.call.specs.Limits.{length_inside}
-use Rattle.call.specs.Checks.{Check, refused_if, verdict_from, verdict_of, length_checks}
+use Rattle.call.specs.Checks.{Check, Verdict, Refused, refused_if, verdict_from, verdict_of, length_checks}
 use Rattle.call.proofs.FirstFacts.{stays}
 use Rattle.frame.specs.declared.asking.Asking.{Asking}
 use Rattle.frame.specs.Writing.{record_of}

@@ -7,19 +7,15 @@ use Prim.Native.Nat.{ℕ, ◌+◌, ◌*◌, ◌≤◌}
 use native.Mathlib.Omega.{arith}
 use lib.Ieee.{Float}
 use lib.ListN.{length, take}
+use Rattle.std.proofs.Common.{Option, None, Some}
 use Rattle.refusal.specs.declared.refusal.Refusal.TheVariants as refusals
-use Rattle.call.specs.declared.answer.Answer.{Answer}
 use Rattle.call.specs.declared.kind.Kind.{Kind}
 use Rattle.call.specs.declared.kind.Kind.TheVariants.{K, I}
-use Rattle.call.specs.Answer.{refused_of}
+use Rattle.call.specs.Answer.{Answer, number_in, refused_of}
 use Rattle.call.specs.Limits.{length_inside}
 use Rattle.call.proofs.LimitFacts.{lent}
 use Rattle.frame.specs.declared.asking.Fields.{Fields}
-use Rattle.frame.specs.declared.asking.Framed.{Framed}
-use Rattle.frame.specs.declared.asking.Framed.TheVariants.{Frame}
 use Rattle.frame.specs.declared.asking.Asking.{Asking}
-use Rattle.frame.specs.declared.asking.Parsed.{Parsed}
-use Rattle.frame.specs.declared.asking.Parsed.TheVariants.{Asked, Malformed}
 use Rattle.frame.specs.Layout.{float_width, record_length, longest_line}
 use Rattle.frame.specs.Over.{over, offered}
 use Rattle.frame.specs.Asking.{framed_of, asked_of, asked_in, parsed_of}
@@ -40,17 +36,17 @@ pub called-line : (o : Outcome) (a : Answer) (cells : List Float) → a ≡ o.an
 unfolding outcome_line
 called-line o a cells e f = ap (λ (x : Answer). line_of x cells) e ∙ ap (line_of o.answer) f
 
-pub framed-line : (line : List ℕ) (f : Fields) → framed_of line ≡ Frame f → answer_line_of line ≡ parsed_line (asked_of f)
+pub framed-line : (line : List ℕ) (f : Fields) → framed_of line ≡ Some f → answer_line_of line ≡ parsed_line (asked_of f)
 unfolding answer_line_of parsed_of asked_in
-framed-line line f e = ap (λ (x : Framed). parsed_line (asked_in x)) e
+framed-line line f e = ap (λ (x : Option Fields). parsed_line (asked_in x)) e
 
-pub asked-line : (line : List ℕ) (a : Asking) → parsed_of line ≡ Asked a → answer_line_of line ≡ outcome_line (called_of a (a.count * 2))
+pub asked-line : (line : List ℕ) (a : Asking) → parsed_of line ≡ Some a → answer_line_of line ≡ outcome_line (called_of a (a.count * 2))
 unfolding answer_line_of outcome_of
-asked-line line a e = ap (λ (p : Parsed). outcome_line (outcome_of p)) e
+asked-line line a e = ap (λ (p : Option Asking). outcome_line (outcome_of p)) e
 
-pub malformed-line : (line : List ℕ) → parsed_of line ≡ Malformed → answer_line_of line ≡ record_of (refused_of refusals.Malformed)
+pub malformed-line : (line : List ℕ) → parsed_of line ≡ None → answer_line_of line ≡ record_of (refused_of refusals.Malformed)
 unfolding answer_line_of outcome_of
-malformed-line line e = ap (λ (p : Parsed). outcome_line (outcome_of p)) e ∙ refused-line refusals.Malformed 0
+malformed-line line e = ap (λ (p : Option Asking). outcome_line (outcome_of p)) e ∙ refused-line refusals.Malformed 0
 
 -- ---- how long it is
 outcome-length : (o : Outcome) → length (outcome_line o) ≤ record_length + length o.cells * float_width
@@ -68,7 +64,7 @@ unfolding called_of
 called-cells a n = called-as-cells a.kind a n
 
 -- an answer of n pairs
-pub answered-length : (a : Asking) → (called_of a (a.count * 2)).answer.number ≡ 0 → length (outcome_line (called_of a (a.count * 2))) ≡ record_length + a.count * 32
+pub answered-length : (a : Asking) → number_in (called_of a (a.count * 2)).answer ≡ 0 → length (outcome_line (called_of a (a.count * 2))) ≡ record_length + a.count * 32
 unfolding outcome_line
 answered-length a e =
     let o = called_of a (a.count * 2) in
@@ -83,17 +79,17 @@ asked-bound a false e = omega (arith, ap length (length-refused a (a.count * 2) 
 called-bound : (a : Asking) → length (called_line a) ≤ longest_line
 called-bound a = asked-bound a (length_inside (a.count * 2)) refl
 
-pub parsed-bound : (p : Parsed) → length (outcome_line (outcome_of p)) ≤ longest_line
+pub parsed-bound : (p : Option Asking) → length (outcome_line (outcome_of p)) ≤ longest_line
 unfolding outcome_of
-parsed-bound (Asked a) = called-bound a
-parsed-bound Malformed = omega (arith, ap length (refused-line refusals.Malformed 0), record-length (refused_of refusals.Malformed))
+parsed-bound (Some a) = called-bound a
+parsed-bound None = omega (arith, ap length (refused-line refusals.Malformed 0), record-length (refused_of refusals.Malformed))
 
 pub line-bound : (line : List ℕ) → length (answer_line_of line) ≤ longest_line
 unfolding answer_line_of
 line-bound line = parsed-bound (parsed_of line)
 
 -- ---- into lent bytes: room for the longest line is room for any
-pub parsed-roomy : (p : Parsed) (d : List ℕ) → longest_line ≤ length d → offered (parsed_line p) d ≡ over 0 (parsed_line p) d
+pub parsed-roomy : (p : Option Asking) (d : List ℕ) → longest_line ≤ length d → offered (parsed_line p) d ≡ over 0 (parsed_line p) d
 parsed-roomy p d h = offered-room (parsed_line p) d (omega (arith, parsed-bound p))
 
 pub roomy : (d line : List ℕ) → longest_line ≤ length d → bytes_into d line ≡ over 0 (answer_line_of line) d
@@ -103,4 +99,4 @@ roomy d line h = parsed-roomy (parsed_of line) d h
 -- ---- a line of another length is malformed whatever it holds, so that the first 57 bytes say all
 pub kept : (line : List ℕ) → answer_line_of (take 57 line) ≡ answer_line_of line
 unfolding answer_line_of
-kept line = ap (λ (p : Parsed). outcome_line (outcome_of p)) (parsed-kept line)
+kept line = ap (λ (p : Option Asking). outcome_line (outcome_of p)) (parsed-kept line)

@@ -9,7 +9,7 @@ ghost use Rattle.answering.specs.Called.{called_of, called_line};
 
 use bessel::i::i;
 use bessel::k::k;
-use call::answer::{Answer, refused};
+use call::answer::Answer;
 use call::kind::Kind;
 use call::limits::LARGEST_COUNT;
 use frame::asking::Asking;
@@ -19,6 +19,10 @@ use refusal::refusal::Refusal;
 
 const FEW: usize = 16;
 
+const FEW_CELLS: usize = 2 * FEW;
+
+const ALL_CELLS: usize = 2 * LARGEST_COUNT;
+
 pub fn refuse(refusal: Refusal, out: &mut [u8]) -> usize
     ensures { (result ≡ record_length)
         × (out.new ≡ offered (record_of (refused_of refusal)) out.old) }
@@ -26,7 +30,7 @@ pub fn refuse(refusal: Refusal, out: &mut [u8]) -> usize
     if out.len() < RECORD_LENGTH {
         return RECORD_LENGTH;
     }
-    write_record(refused(refusal), out);
+    write_record(Err(refusal), out);
     RECORD_LENGTH
 }
 
@@ -34,8 +38,7 @@ fn call(asking: Asking, cells: &mut [f64]) -> Answer
     ensures { (result ≡ (called_of asking (length cells.old)).answer)
         × (cells.new ≡ (called_of asking (length cells.old)).cells) }
 {
-    let kind = asking.kind;
-    match kind {
+    match asking.kind {
         Kind::K => k(asking.scaled, asking.v, asking.re, asking.im, cells),
         Kind::I => i(asking.scaled, asking.v, asking.re, asking.im, cells),
     }
@@ -51,24 +54,14 @@ fn on_cells(asking: Asking, cells: &mut [f64], out: &mut [u8]) -> usize
     offer_answer(answer, cells, out)
 }
 
-fn with_few(asking: Asking, out: &mut [u8]) -> usize
-    requires { asking.count ≤ 16 }
+// On N cells of its own, as many of them as are asked for.
+fn with_cells<const N: usize>(asking: Asking, out: &mut [u8]) -> usize
+    requires { (asking.count * 2 ≤ N) × (N ≤ 1024) }
     ensures { (result ≡ length (called_line asking))
         × (out.new ≡ offered (called_line asking) out.old) }
 {
-    let mut cells = [0.0; 32];
-    let n = asking.count * 2;
-    on_cells(asking, &mut cells[0..n], out)
-}
-
-fn with_many(asking: Asking, out: &mut [u8]) -> usize
-    requires { asking.count ≤ 512 }
-    ensures { (result ≡ length (called_line asking))
-        × (out.new ≡ offered (called_line asking) out.old) }
-{
-    let mut cells = [0.0; 1024];
-    let n = asking.count * 2;
-    on_cells(asking, &mut cells[0..n], out)
+    let mut cells = [0.0; N];
+    on_cells(asking, &mut cells[..asking.count * 2], out)
 }
 
 // No pair at all is left to the call, which refuses it for its length too.
@@ -80,7 +73,7 @@ pub fn answer_asking(asking: Asking, out: &mut [u8]) -> usize
         return refuse(Refusal::Length, out);
     }
     if asking.count <= FEW {
-        return with_few(asking, out);
+        return with_cells::<FEW_CELLS>(asking, out);
     }
-    with_many(asking, out)
+    with_cells::<ALL_CELLS>(asking, out)
 }

@@ -6,17 +6,17 @@ ghost use Rattle.frame.specs.Over.{offered};
 ghost use Rattle.answering.specs.Line.{answer_line_of, parsed_line, bytes_into};
 
 use crate::called::{answer_asking, refuse};
-use frame::asking::{Parsed, parse};
+use frame::asking::{Asking, parse};
 use refusal::refusal::Refusal;
 
 // What was parsed, answered.
-pub fn answer_parsed(parsed: Parsed, out: &mut [u8]) -> usize
+pub fn answer_parsed(parsed: Option<Asking>, out: &mut [u8]) -> usize
     ensures { (result ≡ length (parsed_line parsed))
         × (out.new ≡ offered (parsed_line parsed) out.old) }
 {
     match parsed {
-        Parsed::Asked(asking) => answer_asking(asking, out),
-        Parsed::Malformed => refuse(Refusal::Malformed, out),
+        Some(asking) => answer_asking(asking, out),
+        None => refuse(Refusal::Malformed, out),
     }
 }
 

@@ -10,15 +10,15 @@ use Rattle.answering.specs.Line.{outcome_of}
 use Rattle.answering.proofs.LengthRefused.{refused-line}
 use Rattle.answering.proofs.line.answer_parsed.Goals as goal
 
-pub returns-in-Asked : goal.returns-in-Asked
+pub returns-in-Some : goal.returns-in-Some
 unfolding outcome_of
-returns-in-Asked c = let r = c in rw r.in-Asked.is r.answer_asking.ensures
+returns-in-Some c = let r = c in rw r.in-Some.is r.answer_asking.ensures
 
-pub returns-in-Malformed : goal.returns-in-Malformed
+pub returns-in-None : goal.returns-in-None
 unfolding outcome_of
-returns-in-Malformed c =
+returns-in-None c =
     let r = c in
     let g = r in
     let out = g.args.out.now in
     let e = refused-line refusals.Malformed 0 in
-    rw g.in-Malformed.is (r.refuse.ensures.0 ∙ sym (ap length e ∙ record-length _), r.refuse.ensures.1 ∙ ap (λ (l : List ℕ). offered l out) (sym e))
+    rw g.in-None.is (r.refuse.ensures.0 ∙ sym (ap length e ∙ record-length _), r.refuse.ensures.1 ∙ ap (λ (l : List ℕ). offered l out) (sym e))

@@ -10,7 +10,7 @@ use lib.Ieee.Fits.{and_l, and_r}
 use lib.ListN.{length, take, drop, get_or, length-append, length-drop}
 use lib.Seq.{take_all, take-suc, get_or-drop, length-take-le}
 use Rattle.frame.specs.declared.asking.Fields.{Fields}
-use Rattle.frame.specs.declared.asking.Framed.TheVariants.{Frame, NoFrame}
+use Rattle.std.specs.Prelude.{None, Some}
 use Rattle.frame.specs.Digits.{is_digit, are_digits}
 use Rattle.frame.specs.Asking.{framed_of, asked_of}
 use Rattle.laws.proofs.First.{passed}
@@ -42,14 +42,14 @@ pub record Ahead (chunk : List ℕ) (at : ℕ) : Type 0 where
 -- what holds where a frame comes next, and what it asks
 ahead-if :
     (chunk : List ℕ) (at : ℕ) (f : Fields) (b : Bool) → (leb (at + 57) (length chunk) && eqb (get_or chunk (at + 56) 0) newline) ≡ b →
-    cond b (framed_of (take 56 (drop at chunk))) NoFrame ≡ Frame f → Ahead chunk at × (framed_of (take 56 (drop at chunk)) ≡ Frame f)
+    cond b (framed_of (take 56 (drop at chunk))) None ≡ Some f → Ahead chunk at × (framed_of (take 56 (drop at chunk)) ≡ Some f)
 ahead-if chunk at f true k e =
     let t = both (leb (at + 57) (length chunk)) (eqb (get_or chunk (at + 56) 0) newline) k in
     let d = (framed_is (take 56 (drop at chunk)) f e).1 in
     (record { room = leb-true (at + 57) (length chunk) t.0; ended = eqb-true (get_or chunk (at + 56) 0) newline t.1; digits = subst T (sym d) tt }, e)
 ahead-if chunk at f false k e = absurd (let z : ◌≡◌ {A = ℕ} 0 1 = cc in omega arith)
 
-pub ahead : (chunk : List ℕ) (at : ℕ) (f : Fields) → frame_ahead chunk at ≡ Frame f → Ahead chunk at × (framed_of (take 56 (drop at chunk)) ≡ Frame f)
+pub ahead : (chunk : List ℕ) (at : ℕ) (f : Fields) → frame_ahead chunk at ≡ Some f → Ahead chunk at × (framed_of (take 56 (drop at chunk)) ≡ Some f)
 unfolding frame_ahead
 ahead chunk at f e = ahead-if chunk at f (leb (at + 57) (length chunk) && eqb (get_or chunk (at + 56) 0) newline) refl e
 
@@ -72,15 +72,15 @@ module _ (chunk : List ℕ) (at : ℕ) (a : Ahead chunk at) where
       ∙ step-newline (feed D w) newline refl
 
 -- ---- the tests in their order
-pub not-long : (chunk : List ℕ) (at : ℕ) → length chunk - at < 57 → frame_ahead chunk at ≡ NoFrame
+pub not-long : (chunk : List ℕ) (at : ℕ) → length chunk - at < 57 → frame_ahead chunk at ≡ None
 unfolding frame_ahead
 not-long chunk at h = simp (lt-leb (at + 57) (length chunk) (omega arith))
 
-pub not-ended : (chunk : List ℕ) (at : ℕ) → (get_or chunk (at + 56) 0 ≡ newline → ⊥) → frame_ahead chunk at ≡ NoFrame
+pub not-ended : (chunk : List ℕ) (at : ℕ) → (get_or chunk (at + 56) 0 ≡ newline → ⊥) → frame_ahead chunk at ≡ None
 unfolding frame_ahead
 not-ended chunk at h =
-    ap (λ (b : Bool). cond (leb (at + 57) (length chunk) && b) (framed_of (take 56 (drop at chunk))) NoFrame) (ne_eqb (get_or chunk (at + 56) 0) newline h)
-    ∙ ap (λ (b : Bool). cond b (framed_of (take 56 (drop at chunk))) NoFrame) (none (leb (at + 57) (length chunk)))
+    ap (λ (b : Bool). cond (leb (at + 57) (length chunk) && b) (framed_of (take 56 (drop at chunk))) None) (ne_eqb (get_or chunk (at + 56) 0) newline h)
+    ∙ ap (λ (b : Bool). cond b (framed_of (take 56 (drop at chunk))) None) (none (leb (at + 57) (length chunk)))
   where
     none : (b : Bool) → (b && false) ≡ false
     none true = refl
@@ -94,7 +94,7 @@ by-reading chunk at n m h l g =
 
 -- ---- a frame closed where it stands, and a byte
 pub frame-taken :
-    (chunk line out w : List ℕ) (at n : ℕ) (f : Fields) → Ahead chunk at → framed_of (take 56 (drop at chunk)) ≡ Frame f → length line ≡ 0 → n ≡ 57 →
+    (chunk line out w : List ℕ) (at n : ℕ) (f : Fields) → Ahead chunk at → framed_of (take 56 (drop at chunk)) ≡ Some f → length line ≡ 0 → n ≡ 57 →
     w ≡ with_line (parsed_line (asked_of f)) out → feed line w ≡ fed_of (feed line out) (take n (drop at chunk))
 unfolding closed_of
 frame-taken chunk line out w at n f h p z q e =

@@ -7,7 +7,7 @@ ghost use Rattle.answering.specs.Feed.{with_line, step_of, fed_of};
 ghost use Rattle.lichenoar.specs.Feed.{most_room, most_written, frame_ahead};
 
 use answering::line::answer_parsed;
-use frame::asking::{Framed, Parsed, asked, parse, read_asking};
+use frame::asking::{Asking, Fields, asked, parse, read_asking};
 use frame::layout::ASKING_LENGTH;
 use splitting::cut::{Line, NEWLINE};
 use std::marker::Model;
@@ -70,7 +70,7 @@ impl Answers {
     }
 
     // What was parsed of a line, answered.
-    pub fn close(&mut self, parsed: Parsed)
+    pub fn close(&mut self, parsed: Option<Asking>)
         requires { length self.old + most_room ≤ most_written }
         ensures { self.new ≡ with_line (parsed_line parsed) self.old }
     {
@@ -83,15 +83,15 @@ impl Answers {
 }
 
 // The fields of the next line where a frame and its newline come next: then the line need not be held, and is answered at once.
-pub fn frame_ahead(chunk: &[u8], at: usize) -> Framed
+pub fn frame_ahead(chunk: &[u8], at: usize) -> Option<Fields>
     requires { at < length chunk.now }
     ensures { result ≡ frame_ahead chunk.now at }
 {
     if chunk.len() - at < LINE_LENGTH {
-        return Framed::NoFrame;
+        return None;
     }
     if chunk[at + ASKING_LENGTH] != NEWLINE {
-        return Framed::NoFrame;
+        return None;
     }
     read_asking(&chunk[at..at + ASKING_LENGTH])
 }
@@ -126,7 +126,7 @@ impl Buffers {
             × (feed_of self.new ≡ fed_of (feed_of self.old) (part_of chunk.now at result)) }
     {
         if self.line.is_empty() {
-            if let Framed::Frame(fields) = frame_ahead(chunk, at) {
+            if let Some(fields) = frame_ahead(chunk, at) {
                 self.out.close(asked(fields));
                 return at + LINE_LENGTH;
             }

@@ -6,7 +6,8 @@ use native.Mathlib.Omega.{arith}
 use borrow.Rule.Slice.PartMut.{mid_of, put_mid}
 use lib.ListN.{length, take, length-set}
 use lib.Seq.{length-take-le}
-use Rattle.frame.specs.declared.asking.Parsed.{Parsed}
+use Rattle.std.specs.Prelude.{Option}
+use Rattle.frame.specs.declared.asking.Asking.{Asking}
 use Rattle.frame.specs.Over.{offered}
 use Rattle.answering.specs.Line.{parsed_line}
 use Rattle.answering.proofs.LineFacts.{parsed-bound, parsed-roomy}
@@ -16,7 +17,7 @@ use Rattle.lichenoar.proofs.BufferFacts.{Closing, closing, lent-room}
 use Rattle.lichenoar.proofs.lines.Answers.close.Goals as goal
 
 behind :
-    (p : Parsed) (d ys : List ℕ) (f n : ℕ) → f + most_room ≤ length d → n ≡ length (parsed_line p) → ys ≡ offered (parsed_line p) (mid_of f (length d - f) d) →
+    (p : Option Asking) (d ys : List ℕ) (f n : ℕ) → f + most_room ≤ length d → n ≡ length (parsed_line p) → ys ≡ offered (parsed_line p) (mid_of f (length d - f) d) →
     Closing d (parsed_line p) (put_mid f (length d - f) d ys) f n
 behind p d ys f n h e g = closing d (parsed_line p) ys f n h (parsed-bound p) e (g ∙ parsed-roomy p _ (lent-room d f h))
 

@@ -2,7 +2,8 @@
 use mathlib.Core.Path.{◌≡◌, sym, ap, ◌∙◌}
 use mathlib.Core.List.{List, [], ◌∷◌, ◌++◌}
 use Prim.Native.Nat.{ℕ}
-use Rattle.frame.specs.declared.asking.Parsed.{Parsed}
+use Rattle.std.specs.Prelude.{Option}
+use Rattle.frame.specs.declared.asking.Asking.{Asking}
 use Rattle.frame.specs.Asking.{parsed_of}
 use Rattle.answering.specs.Line.{answer_line_of, parsed_line}
 use Rattle.answering.specs.Feed.{Feed, step_of, with_line, closed_of}
@@ -11,12 +12,12 @@ use Rattle.lichenoar.proofs.lines.Buffers.take_byte.Goals as goal
 
 -- the line closed, from what is known of each call
 closed :
-    (line h line' out out' : List ℕ) (b : ℕ) (p : Parsed) → b ≡ 10 → h ≡ line → p ≡ parsed_of h → out' ≡ with_line (parsed_line p) out → line' ≡ [] →
+    (line h line' out out' : List ℕ) (b : ℕ) (p : Option Asking) → b ≡ 10 → h ≡ line → p ≡ parsed_of h → out' ≡ with_line (parsed_line p) out → line' ≡ [] →
     feed line' out' ≡ step_of (feed line out) b
 unfolding closed_of answer_line_of
 closed line h line' out out' b p n e f g k =
     ap (λ (l : List ℕ). feed l out') k
-    ∙ ap (feed []) (g ∙ ap (λ (q : Parsed). with_line (parsed_line q) out) (f ∙ ap parsed_of e))
+    ∙ ap (feed []) (g ∙ ap (λ (q : Option Asking). with_line (parsed_line q) out) (f ∙ ap parsed_of e))
     ∙ sym (step-newline (feed line out) b n)
 
 pub returns-then-b-eq-NEWLINE : goal.returns-then-b-eq-NEWLINE

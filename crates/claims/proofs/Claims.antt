@@ -1,5 +1,6 @@
 -- The claims, entry point by entry point: what a call comes to, exactly when each number is given, that no second outcome fits, and that no sum ends for want of steps.
 -- That the code does what the definitions say stands as each function's contract in its source; every one is proved. Assumes nothing.
+use Rattle.std.specs.Prelude.{Some, None}
 use mathlib.Core.Path.{◌≡◌, refl, ap}
 use mathlib.Core.Logic.{◌⊎◌}
 use mathlib.Core.Bool.{Bool, true, false, not, ◌&&◌}
@@ -10,7 +11,7 @@ use lib.Ieee.{Float, binary64, fits, to_bits, lt, eq, in_unsigned}
 use lib.Ieee.Positive.{positive}
 use lib.Ieee.Scale.{finite}
 use lib.ListN.{take, get_or, length as length-of}
-use Rattle.call.specs.declared.answer.Answer.{Answer}
+use Rattle.call.specs.Answer.{Answer, number_in, longest_in}
 use Rattle.call.specs.Checks.{Check, none_applies, numbers_of, check, length_checks, finite_checks, limit_checks}
 use Rattle.call.proofs.FirstFacts.{Exactly, Given, given-at, is_one_of, FirstDecides, first-decides}
 use Rattle.complex.specs.declared.number.Complex.{Complex}
@@ -57,10 +58,7 @@ use Rattle.machine.specs.Constants.{absolute_approximation_limit}
 use Rattle.complex.specs.Functions.{modulus_of}
 use Rattle.frame.specs.declared.asking.Asking.{Asking}
 use Rattle.frame.specs.declared.asking.Fields.{Fields}
-use Rattle.frame.specs.declared.asking.Framed.TheVariants.{Frame, NoFrame}
-use Rattle.frame.specs.declared.asking.Parsed.TheVariants.{Asked, Malformed}
 use Rattle.frame.specs.declared.reading.Record as readings
-use Rattle.frame.specs.declared.reading.Reading.TheVariants.{Readable}
 use Rattle.frame.specs.Layout.{byte_width, record_length, asking_length}
 use Rattle.frame.specs.Digits.{number_of}
 use Rattle.frame.specs.Asking.{framed_of, parsed_of, asking_line_of, FieldsFit, asked_of, asked_in}
@@ -125,7 +123,7 @@ pub record OfK : Type 0 where
   -- the contract of `k` gives the record and the cells: no second outcome fits it. `k_outcome` has no argument for what the cells held before
   pub one-outcome : (scaled : Bool) (v re im : Float) (length : ℕ) → let o = k_outcome scaled v re im length in Determined (Gives o.answer o.cells)
   -- each number exactly when its check is the first that applies, 0 exactly when none does; 3, 11 and 12 by the limit that was hit; no number but those of the list
-  pub number : (scaled : Bool) (v re im : Float) (length : ℕ) → NumberOfK scaled v re im length (k_outcome scaled v re im length).answer.number
+  pub number : (scaled : Bool) (v re im : Float) (length : ℕ) → NumberOfK scaled v re im length (number_in (k_outcome scaled v re im length).answer)
   pub listed : (scaled : Bool) (a : Arguments) (length : ℕ) → numbers_of (all_k_checks scaled a length) ≡ 1 ∷ 2 ∷ 3 ∷ 11 ∷ 12 ∷ 4 ∷ 6 ∷ 7 ∷ 8 ∷ []
   -- the list itself: the conditions in their order, over the call's own arguments and steps
   pub table :
@@ -153,9 +151,9 @@ pub record OfK : Type 0 where
       (scaled : Bool) (v re im : Float) (length : ℕ) →
       RefusedWhole length (k_outcome scaled v re im length) ⊎ k.AnsweredWhole scaled (arguments_of v re im) length (k_outcome scaled v re im length)
   -- a number above 0 is a refusal's, and 0 an answer's; as many cells are left as were lent
-  pub refused : (scaled : Bool) (v re im : Float) (length : ℕ) → 0 < (k_outcome scaled v re im length).answer.number → RefusedWhole length (k_outcome scaled v re im length)
+  pub refused : (scaled : Bool) (v re im : Float) (length : ℕ) → 0 < number_in (k_outcome scaled v re im length).answer → RefusedWhole length (k_outcome scaled v re im length)
   pub answered :
-      (scaled : Bool) (v re im : Float) (length : ℕ) → (k_outcome scaled v re im length).answer.number ≡ 0 →
+      (scaled : Bool) (v re im : Float) (length : ℕ) → number_in (k_outcome scaled v re im length).answer ≡ 0 →
       k.AnsweredWhole scaled (arguments_of v re im) length (k_outcome scaled v re im length)
   pub cells : (scaled : Bool) (v re im : Float) (length : ℕ) → length-of (k_outcome scaled v re im length).cells ≡ length
   -- r is the order rounded: where the checks are passed, it is a whole number to 1,000, which its type holds
@@ -164,13 +162,13 @@ pub record OfK : Type 0 where
       let order = (arguments_of v re im).order in T (in_unsigned binary64 32 (round_of order)) × (nearest_order order ≤ 1000)
   -- in every answered call: r + n - 2 rungs, which is none for r = 0 and n = 1, at most 256 backward steps, +0 in the entries before the count
   pub counts :
-      (scaled : Bool) (v re im : Float) (length : ℕ) → (k_outcome scaled v re im length).answer.number ≡ 0 →
+      (scaled : Bool) (v re im : Float) (length : ℕ) → number_in (k_outcome scaled v re im length).answer ≡ 0 →
       k.Counted scaled (arguments_of v re im) length (k_outcome scaled v re im length)
-  pub terms : (scaled : Bool) (v re im : Float) (length : ℕ) → (k_outcome scaled v re im length).answer.number ≡ 0 → (k_outcome scaled v re im length).answer.longest_sum ≤ 18
+  pub terms : (scaled : Bool) (v re im : Float) (length : ℕ) → number_in (k_outcome scaled v re im length).answer ≡ 0 → longest_in (k_outcome scaled v re im length).answer ≤ 18
   -- in every answered call no sum ends for want of steps (every f64 fits binary64): where Temme's branch is taken, this call's sum, if it is begun, its difference series, where it is
   -- taken, and the series of its one log-gamma end by their own tests; any other branch begins none
   pub sums :
-      (scaled : Bool) (v re im : Float) (length : ℕ) → T (fits binary64 v) → (k_outcome scaled v re im length).answer.number ≡ 0 →
+      (scaled : Bool) (v re im : Float) (length : ℕ) → T (fits binary64 v) → number_in (k_outcome scaled v re im length).answer ≡ 0 →
       Sums scaled (arguments_of v re im) length (k_outcome scaled v re im length)
   -- where the checks are passed and the fraction is not ±½, neither |cos(π fraction)| nor |1/4 - fraction²| is zero: the Rust text's tests for these never hold
   pub off-half :
@@ -204,7 +202,7 @@ of-k = record {
 pub record OfSeries : Type 0 where
   pub one-outcome :
       (scaled turned : Bool) (v re im : Float) (length : ℕ) → let o = series_outcome scaled turned v re im length in Determined (Gives o.answer o.cells)
-  pub number : (scaled turned : Bool) (v re im : Float) (length : ℕ) → NumberOfSeries scaled turned v re im length (series_outcome scaled turned v re im length).answer.number
+  pub number : (scaled turned : Bool) (v re im : Float) (length : ℕ) → NumberOfSeries scaled turned v re im length (number_in (series_outcome scaled turned v re im length).answer)
   pub listed : (scaled turned : Bool) (a : Arguments) (length : ℕ) → numbers_of (all_series_checks scaled turned a length) ≡ 1 ∷ 2 ∷ 3 ∷ 11 ∷ 12 ∷ 5 ∷ 8 ∷ []
   pub table :
       (scaled turned : Bool) (a : Arguments) (length : ℕ) →
@@ -225,17 +223,17 @@ pub record OfSeries : Type 0 where
       (scaled turned : Bool) (v re im : Float) (length : ℕ) →
       RefusedWhole length (series_outcome scaled turned v re im length) ⊎ i.AnsweredWhole scaled turned (arguments_of v re im) length (series_outcome scaled turned v re im length)
   pub refused :
-      (scaled turned : Bool) (v re im : Float) (length : ℕ) → 0 < (series_outcome scaled turned v re im length).answer.number → RefusedWhole length (series_outcome scaled turned v re im length)
+      (scaled turned : Bool) (v re im : Float) (length : ℕ) → 0 < number_in (series_outcome scaled turned v re im length).answer → RefusedWhole length (series_outcome scaled turned v re im length)
   pub answered :
-      (scaled turned : Bool) (v re im : Float) (length : ℕ) → (series_outcome scaled turned v re im length).answer.number ≡ 0 →
+      (scaled turned : Bool) (v re im : Float) (length : ℕ) → number_in (series_outcome scaled turned v re im length).answer ≡ 0 →
       i.AnsweredWhole scaled turned (arguments_of v re im) length (series_outcome scaled turned v re im length)
   pub cells : (scaled turned : Bool) (v re im : Float) (length : ℕ) → length-of (series_outcome scaled turned v re im length).cells ≡ length
   -- in every answered call: the counts of the visit's steps; at most n zeros, n - 2 steps of the recurrence and 19 terms of a sum; no backward step
   pub counts :
-      (scaled turned : Bool) (v re im : Float) (length : ℕ) → (series_outcome scaled turned v re im length).answer.number ≡ 0 →
+      (scaled turned : Bool) (v re im : Float) (length : ℕ) → number_in (series_outcome scaled turned v re im length).answer ≡ 0 →
       i.Counted scaled turned (arguments_of v re im) length (series_outcome scaled turned v re im length)
   -- every sum that an answered call begins meets its own test by the term 19
-  pub sums : (scaled turned : Bool) (v re im : Float) (length : ℕ) → T (fits binary64 re) → T (fits binary64 im) → (series_outcome scaled turned v re im length).answer.number ≡ 0 →
+  pub sums : (scaled turned : Bool) (v re im : Float) (length : ℕ) → T (fits binary64 re) → T (fits binary64 im) → number_in (series_outcome scaled turned v re im length).answer ≡ 0 →
       (at : ℕ) → let a = arguments_of v re im in let g = series.setting_of scaled turned a.order a.z a.modulus in let u = order_plus_one a.order ((walk_after g (length / 2) at).standing.left - 1) in
       Wanted (walk_after g (length / 2) at) → sum_is_one (half_square a.modulus) u ≡ false → EndsByTest g.half_z_sq (half_square a.modulus) u
   -- where the visit asks for log-gamma: at an order that it seeds, of that order plus one; a step of the recurrence asks for none
@@ -243,7 +241,7 @@ pub record OfSeries : Type 0 where
   pub recurring : (g : Setting) (w : Walk) → 2 ≤ w.standing.state.seeded → (next_walk g w).standing.state ≡ recurred_of g (w.standing.left - 1) w.standing.state
   -- every log-gamma that it asks for is of an argument above zero, and its series ends by its own test
   pub log-gammas :
-      (scaled turned : Bool) (v re im : Float) (length : ℕ) → (series_outcome scaled turned v re im length).answer.number ≡ 0 →
+      (scaled turned : Bool) (v re im : Float) (length : ℕ) → number_in (series_outcome scaled turned v re im length).answer ≡ 0 →
       (x : Float) → LogGammaAsked scaled turned (arguments_of v re im) length x → T (positive x) × stirling.EndsByTest (series_argument_of x)
   -- the near-underflow mark, once set, stays until an entry's modulus exceeds A
   pub mark :
@@ -275,19 +273,19 @@ of-series = record {
 pub record OfI : Type 0 where
   pub as-series : (scaled : Bool) (v re im : Float) (length : ℕ) → i_outcome scaled v re im length ≡ series_outcome scaled false v re im length
   pub one-outcome : (scaled : Bool) (v re im : Float) (length : ℕ) → let o = i_outcome scaled v re im length in Determined (Gives o.answer o.cells)
-  pub number : (scaled : Bool) (v re im : Float) (length : ℕ) → NumberOfSeries scaled false v re im length (i_outcome scaled v re im length).answer.number
+  pub number : (scaled : Bool) (v re im : Float) (length : ℕ) → NumberOfSeries scaled false v re im length (number_in (i_outcome scaled v re im length).answer)
   pub whole :
       (scaled : Bool) (v re im : Float) (length : ℕ) →
       RefusedWhole length (i_outcome scaled v re im length) ⊎ i.AnsweredWhole scaled false (arguments_of v re im) length (i_outcome scaled v re im length)
   pub counts :
-      (scaled : Bool) (v re im : Float) (length : ℕ) → (i_outcome scaled v re im length).answer.number ≡ 0 →
+      (scaled : Bool) (v re im : Float) (length : ℕ) → number_in (i_outcome scaled v re im length).answer ≡ 0 →
       i.Counted scaled false (arguments_of v re im) length (i_outcome scaled v re im length)
   pub listed : (scaled : Bool) (a : Arguments) (length : ℕ) → numbers_of (all_series_checks scaled false a length) ≡ 1 ∷ 2 ∷ 3 ∷ 11 ∷ 12 ∷ 5 ∷ 8 ∷ []
-  pub sums : (scaled : Bool) (v re im : Float) (length : ℕ) → T (fits binary64 re) → T (fits binary64 im) → (i_outcome scaled v re im length).answer.number ≡ 0 →
+  pub sums : (scaled : Bool) (v re im : Float) (length : ℕ) → T (fits binary64 re) → T (fits binary64 im) → number_in (i_outcome scaled v re im length).answer ≡ 0 →
       (at : ℕ) → let a = arguments_of v re im in let g = series.setting_of scaled false a.order a.z a.modulus in let u = order_plus_one a.order ((walk_after g (length / 2) at).standing.left - 1) in
       Wanted (walk_after g (length / 2) at) → sum_is_one (half_square a.modulus) u ≡ false → EndsByTest g.half_z_sq (half_square a.modulus) u
   pub log-gammas :
-      (scaled : Bool) (v re im : Float) (length : ℕ) → (i_outcome scaled v re im length).answer.number ≡ 0 →
+      (scaled : Bool) (v re im : Float) (length : ℕ) → number_in (i_outcome scaled v re im length).answer ≡ 0 →
       (x : Float) → LogGammaAsked scaled false (arguments_of v re im) length x → T (positive x) × stirling.EndsByTest (series_argument_of x)
 
 pub of-i : OfI
@@ -363,15 +361,15 @@ of-exports = record {
 
 -- ---- lines, with no kernel beneath them: what is written is read back, and what is read is what was written
 pub record OfFrames : Type 0 where
-  pub asking-read : (f : Fields) → FieldsFit f → framed_of (asking_line_of f) ≡ Frame f
-  pub asking-again : (line : List ℕ) (f : Fields) → framed_of line ≡ Frame f → asking_line_of f ≡ line
+  pub asking-read : (f : Fields) → FieldsFit f → framed_of (asking_line_of f) ≡ Some f
+  pub asking-again : (line : List ℕ) (f : Fields) → framed_of line ≡ Some f → asking_line_of f ≡ line
   pub answered-read :
-      (a : Answer) (cells : List Float) (n : ℕ) → RecordFits (said_of a n) → a.number ≡ 0 → length-of cells ≡ n * 2 → reading_of (line_of a cells) ≡ Readable (said_of a n)
-  pub refused-read : (a : Answer) (cells : List Float) → RecordFits (said_of a 0) → (a.number ≡ 0 → ⊥) → reading_of (line_of a cells) ≡ Readable (said_of a 0)
+      (a : Answer) (cells : List Float) (n : ℕ) → RecordFits (said_of a n) → number_in a ≡ 0 → length-of cells ≡ n * 2 → reading_of (line_of a cells) ≡ Some (said_of a n)
+  pub refused-read : (a : Answer) (cells : List Float) → RecordFits (said_of a 0) → (number_in a ≡ 0 → ⊥) → reading_of (line_of a cells) ≡ Some (said_of a 0)
   pub cell-read :
-      (a : Answer) (cells : List Float) (at : ℕ) (z : Float) → a.number ≡ 0 → at < length-of cells → T (fits binary64 (get_or cells at z)) →
+      (a : Answer) (cells : List Float) (at : ℕ) (z : Float) → number_in a ≡ 0 → at < length-of cells → T (fits binary64 (get_or cells at z)) →
       cell_bits_of at (line_of a cells) ≡ to_bits binary64 (get_or cells at z)
-  pub answer-again : (line : List ℕ) (r : readings.Record) → reading_of line ≡ Readable r → line_again r (bits_read (r.pairs * 2) line) ≡ line
+  pub answer-again : (line : List ℕ) (r : readings.Record) → reading_of line ≡ Some r → line_again r (bits_read (r.pairs * 2) line) ≡ line
 
 pub of-frames : OfFrames
 of-frames = record { asking-read = asking-read; asking-again = asking-again; answered-read = answered-read; refused-read = refused-read; cell-read = cell-read; answer-again = line-again }
@@ -384,30 +382,30 @@ pub record OfLines : Type 0 where
   pub room : (d line : List ℕ) → length-of (answer_line_of line) ≤ length-of d → bytes_into d line ≡ over 0 (answer_line_of line) d
   pub no_room : (d line : List ℕ) → length-of d < length-of (answer_line_of line) → bytes_into d line ≡ d
   -- the line of a frame is that of the call which it asks for, on two cells a pair, re before im; more than 512 pairs get refusal 1
-  pub asked : (line : List ℕ) (a : Asking) → parsed_of line ≡ Asked a → answer_line_of line ≡ line_of (called_of a (a.count * 2)).answer (called_of a (a.count * 2)).cells
+  pub asked : (line : List ℕ) (a : Asking) → parsed_of line ≡ Some a → answer_line_of line ≡ line_of (called_of a (a.count * 2)).answer (called_of a (a.count * 2)).cells
   pub called-k : (a : Asking) (n : ℕ) → a.kind ≡ K → called_of a n ≡ k_outcome a.scaled a.v a.re a.im n
   pub called-i : (a : Asking) (n : ℕ) → a.kind ≡ I → called_of a n ≡ i_outcome a.scaled a.v a.re a.im n
   pub too_many : (a : Asking) → 512 < a.count → called_of a (a.count * 2) ≡ refused_outcome Length (a.count * 2)
   -- what is no frame is malformed, by its length or by a digit; a frame is asked by its fields, of which a kind or a scaling can be wrong (`asked_of`)
-  pub framed : (line : List ℕ) (f : Fields) → framed_of line ≡ Frame f → parsed_of line ≡ asked_of f
-  pub unframed : (line : List ℕ) → framed_of line ≡ NoFrame → parsed_of line ≡ Malformed
-  pub other_length : (line : List ℕ) → (length-of line ≡ asking_length → ⊥) → parsed_of line ≡ Malformed
+  pub framed : (line : List ℕ) (f : Fields) → framed_of line ≡ Some f → parsed_of line ≡ asked_of f
+  pub unframed : (line : List ℕ) → framed_of line ≡ None → parsed_of line ≡ None
+  pub other_length : (line : List ℕ) → (length-of line ≡ asking_length → ⊥) → parsed_of line ≡ None
   -- the first two digits are the outcome's number, of which is true what is said of K's and of I's; 9 exactly for a malformed line; no number but these
-  pub number : (line : List ℕ) → number_of (take byte_width (answer_line_of line)) ≡ (outcome_of (parsed_of line)).answer.number
+  pub number : (line : List ℕ) → number_of (take byte_width (answer_line_of line)) ≡ (number_in (outcome_of (parsed_of line)).answer)
   pub k-number :
-      (line : List ℕ) (a : Asking) → parsed_of line ≡ Asked a → a.kind ≡ K →
+      (line : List ℕ) (a : Asking) → parsed_of line ≡ Some a → a.kind ≡ K →
       NumberOfK a.scaled a.v a.re a.im (a.count * 2) (number_of (take byte_width (answer_line_of line)))
   pub i-number :
-      (line : List ℕ) (a : Asking) → parsed_of line ≡ Asked a → a.kind ≡ I →
+      (line : List ℕ) (a : Asking) → parsed_of line ≡ Some a → a.kind ≡ I →
       NumberOfSeries a.scaled false a.v a.re a.im (a.count * 2) (number_of (take byte_width (answer_line_of line)))
   pub no_other : (line : List ℕ) → T (is_one_of (number_of (take byte_width (answer_line_of line))) (0 ∷ 9 ∷ 1 ∷ 2 ∷ 3 ∷ 11 ∷ 12 ∷ 4 ∷ 5 ∷ 6 ∷ 7 ∷ 8 ∷ []))
-  pub malformed : (line : List ℕ) → let number = number_of (take byte_width (answer_line_of line)) in (number ≡ 9 → parsed_of line ≡ Malformed) × (parsed_of line ≡ Malformed → number ≡ 9)
+  pub malformed : (line : List ℕ) → let number = number_of (take byte_width (answer_line_of line)) in (number ≡ 9 → parsed_of line ≡ None) × (parsed_of line ≡ None → number ≡ 9)
   -- 18 digits, and 32 more a pair behind the number 0
-  pub refused-length : (line : List ℕ) → ((outcome_of (parsed_of line)).answer.number ≡ 0 → ⊥) → length-of (answer_line_of line) ≡ record_length
+  pub refused-length : (line : List ℕ) → ((number_in (outcome_of (parsed_of line)).answer) ≡ 0 → ⊥) → length-of (answer_line_of line) ≡ record_length
   pub answered-length :
-      (line : List ℕ) (a : Asking) → parsed_of line ≡ Asked a → (called_of a (a.count * 2)).answer.number ≡ 0 → length-of (answer_line_of line) ≡ record_length + a.count * 32
+      (line : List ℕ) (a : Asking) → parsed_of line ≡ Some a → number_in (called_of a (a.count * 2)).answer ≡ 0 → length-of (answer_line_of line) ≡ record_length + a.count * 32
   -- every answer line can be read, and its fields are the record's, all of them, with the pairs that follow
-  pub fields : (line : List ℕ) → let p = parsed_of line in reading_of (answer_line_of line) ≡ Readable (said_of (outcome_of p).answer (pairs_of p))
+  pub fields : (line : List ℕ) → let p = parsed_of line in reading_of (answer_line_of line) ≡ Some (said_of (outcome_of p).answer (pairs_of p))
 
 pub of-lines : OfLines
 unfolding outcome_line called_of called_as parsed_of asked_in

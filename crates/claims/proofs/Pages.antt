@@ -1,5 +1,7 @@
 -- The claims of the page: what a line says, each part by itself over the list of lines, that the parts add up, what a line added and two pages joined come to,
 -- 15 exactly, no overflow, and where the answer lines of our own program are counted. Assumes nothing.
+use Rattle.std.specs.Prelude.{Option, Some, None}
+use Rattle.call.specs.Answer as answers
 use mathlib.Core.Path.{◌≡◌, refl, sym, ap, ◌∙◌, subst}
 use mathlib.Core.Logic.{◌⊎◌, inl, inr}
 use mathlib.Core.Bool.{Bool, true, cond, ◌&&◌, ◌||◌}
@@ -17,11 +19,7 @@ use Rattle.refusal.specs.declared.refusal.Refusal.TheVariants as refusals
 use Rattle.refusal.proofs.Distinct as refusal-numbers
 use Rattle.splitting.specs.Count.{total_of}
 use Rattle.call.proofs.FirstFacts.{is_one_of}
-use Rattle.frame.specs.declared.asking.Parsed.{Parsed}
-use Rattle.frame.specs.declared.asking.Parsed.TheVariants.{Asked, Malformed}
 use Rattle.frame.specs.declared.reading.Record.{Record}
-use Rattle.frame.specs.declared.reading.Reading.{Reading}
-use Rattle.frame.specs.declared.reading.Reading.TheVariants.{Readable, Unreadable}
 use Rattle.frame.specs.Layout.{byte_width}
 use Rattle.frame.specs.Digits.{number_of}
 use Rattle.frame.specs.Asking.{parsed_of}
@@ -50,32 +48,32 @@ use Rattle.claims.proofs.Lines.{all_of, one_of_all, line_numbers, line-no-other}
 known : ℕ → Bool
 known n = eqb n 0 || is_listed n
 
-own-number : (line : List ℕ) → (eqb (outcome_of (parsed_of line)).answer.number 0 || is_listed (outcome_of (parsed_of line)).answer.number) ≡ true
+own-number : (line : List ℕ) → (eqb (answers.number_in (outcome_of (parsed_of line)).answer) 0 || is_listed (answers.number_in (outcome_of (parsed_of line)).answer)) ≡ true
 unfolding known all_of is_listed
 own-number line =
     passed _ (subst (λ (n : ℕ). T (known n)) (number_read line) (one_of_all known (number_of (take byte_width (answer_line_of line))) line_numbers tt (line-no-other line)))
 
-own-bounded : (p : Parsed) → Bounded (outcome_of p)
+own-bounded : (p : Option Asking) → Bounded (outcome_of p)
 unfolding outcome_of called_of
-own-bounded (Asked a) = called-bounded a.kind a (a.count * 2)
-own-bounded Malformed = refused-bounded 0 (refused_outcome refusals.Malformed 0) (refused-facts 0 refusals.Malformed)
+own-bounded (Some a) = called-bounded a.kind a (a.count * 2)
+own-bounded None = refused-bounded 0 (refused_outcome refusals.Malformed 0) (refused-facts 0 refusals.Malformed)
 
 own-known : (line : List ℕ) → is_known (said_of (outcome_of (parsed_of line)).answer (pairs_of (parsed_of line))) ≡ true
 unfolding is_known said_of
 own-known line =
     let o = (outcome_of (parsed_of line)).answer in
-    ap (λ (b : Bool). b && (eqb o.number 0 || is_listed o.number)) (le-leb o.longest_sum 19 (own-bounded (parsed_of line)).longest-sum) ∙ own-number line
+    ap (λ (b : Bool). b && (eqb (answers.number_in o) 0 || is_listed (answers.number_in o))) (le-leb (answers.longest_in o) 19 (own-bounded (parsed_of line)).longest-sum) ∙ own-number line
 
-own-said : (line : List ℕ) → said_by (answer_line_of line) ≡ Readable (said_of (outcome_of (parsed_of line)).answer (pairs_of (parsed_of line)))
+own-said : (line : List ℕ) → said_by (answer_line_of line) ≡ Some (said_of (outcome_of (parsed_of line)).answer (pairs_of (parsed_of line)))
 unfolding said_by said_in
 own-said line =
     let r = said_of (outcome_of (parsed_of line)).answer (pairs_of (parsed_of line)) in
-    ap said_in (fields_read line) ∙ ap (λ (b : Bool). cond b (Readable r) Unreadable) (own-known line)
+    ap said_in (fields_read line) ∙ ap (λ (b : Bool). cond b (Some r) None) (own-known line)
 
-own-one : (line : List ℕ) → as_number (outcome_of (parsed_of line)).answer.number (said_by (answer_line_of line)) ≡ 1
+own-one : (line : List ℕ) → as_number (answers.number_in (outcome_of (parsed_of line)).answer) (said_by (answer_line_of line)) ≡ 1
 unfolding as_number said_of
 own-one line =
-    let n = (outcome_of (parsed_of line)).answer.number in
+    let n = answers.number_in (outcome_of (parsed_of line)).answer in
     ap (as_number n) (own-said line) ∙ ap (λ (b : Bool). cond b 1 0) (eq-eqb n n refl)
 
 own_read : (line : List ℕ) → as_unreadable (said_by (answer_line_of line)) ≡ 0
@@ -83,20 +81,20 @@ unfolding as_unreadable
 own_read line = ap as_unreadable (own-said line)
 
 own-counts :
-    (line : List ℕ) → let o = (outcome_of (parsed_of line)).answer in let s = said_by (answer_line_of line) in o.number ≡ 0 →
-    (as_longest o.longest_sum s ≡ 1) × (rungs_in s ≡ o.rungs) × (backward_in s ≡ o.backward) × (zeros_in s ≡ nat_abs o.zeros)
+    (line : List ℕ) → let o = (outcome_of (parsed_of line)).answer in let s = said_by (answer_line_of line) in answers.number_in o ≡ 0 →
+    (as_longest (answers.longest_in o) s ≡ 1) × (rungs_in s ≡ (answers.rungs_in o)) × (backward_in s ≡ (answers.backward_in o)) × (zeros_in s ≡ nat_abs (answers.zeros_in o))
 unfolding as_longest rungs_in backward_in zeros_in if_answered said_of
 own-counts line e =
     let o = (outcome_of (parsed_of line)).answer in
-    let answered = eq-eqb o.number 0 e in
+    let answered = eq-eqb (answers.number_in o) 0 e in
     let said = own-said line in (
-      ap (as_longest o.longest_sum) said ∙ ap (λ (b : Bool). cond (b && eqb o.longest_sum o.longest_sum) 1 0) answered ∙ ap (λ (b : Bool). cond b 1 0) (eq-eqb o.longest_sum o.longest_sum refl),
-      ap rungs_in said ∙ ap (λ (b : Bool). cond b o.rungs 0) answered,
-      ap backward_in said ∙ ap (λ (b : Bool). cond b o.backward 0) answered,
-      ap zeros_in said ∙ ap (λ (b : Bool). cond b (nat_abs o.zeros) 0) answered,
+      ap (as_longest (answers.longest_in o)) said ∙ ap (λ (b : Bool). cond (b && eqb (answers.longest_in o) (answers.longest_in o)) 1 0) answered ∙ ap (λ (b : Bool). cond b 1 0) (eq-eqb (answers.longest_in o) (answers.longest_in o) refl),
+      ap rungs_in said ∙ ap (λ (b : Bool). cond b (answers.rungs_in o) 0) answered,
+      ap backward_in said ∙ ap (λ (b : Bool). cond b (answers.backward_in o) 0) answered,
+      ap zeros_in said ∙ ap (λ (b : Bool). cond b (nat_abs (answers.zeros_in o)) 0) answered,
     )
 
-none_said : said_by [] ≡ Unreadable
+none_said : said_by [] ≡ None
 unfolding said_by said_in reading_of layout_kept
 none_said = refl
 
@@ -105,9 +103,9 @@ pub record OfPage : Type 0 where
   pub one-outcome-line : (page line : List ℕ) → Determined (Gives (line_number page line) (line_page page line))
   pub one-outcome-join : (into from : List ℕ) → Determined (Gives (join_number into from) (join_page into from))
   -- a line is read by its layout, with 0 or a number of the list and a longest sum of at most 19, and is else unreadable, an empty one too
-  pub said : (line : List ℕ) (r : Record) → reading_of line ≡ Readable r → said_by line ≡ cond (leb r.longest_sum 19 && (eqb r.number 0 || is_listed r.number)) (Readable r) Unreadable
-  pub unsaid : (line : List ℕ) → reading_of line ≡ Unreadable → said_by line ≡ Unreadable
-  pub empty-line : said_by [] ≡ Unreadable
+  pub said : (line : List ℕ) (r : Record) → reading_of line ≡ Some r → said_by line ≡ cond (leb r.longest_sum 19 && (eqb r.number 0 || is_listed r.number)) (Some r) None
+  pub unsaid : (line : List ℕ) → reading_of line ≡ None → said_by line ≡ None
+  pub empty-line : said_by [] ≡ None
   -- the list is that of the refusals, both ways
   pub listed : (r : Refusal) → is_listed (refusal-number r) ≡ true
   pub named : (n : ℕ) → is_listed n ≡ true → (r : Refusal) × (refusal-number r ≡ n)
@@ -153,12 +151,12 @@ pub record OfPage : Type 0 where
   pub no_overflow : (lines : List (List ℕ)) → length lines ≤ most_lines → (i : ℕ) → i < cells → cell_of i lines ≤ 281470681677825
   pub none-cut : (a b : List (List ℕ)) → length (a ++ b) ≤ most_lines → (i : ℕ) → i < cells → cell_of i a + cell_of i b ≤ most_cell
   -- every answer line of our own program is read, and says what was answered; so it is counted where it belongs
-  pub own-lines : (line : List ℕ) → let p = parsed_of line in said_by (answer_line_of line) ≡ Readable (said_of (outcome_of p).answer (pairs_of p))
-  pub own-number : (asked : List ℕ) → as_number (outcome_of (parsed_of asked)).answer.number (said_by (answer_line_of asked)) ≡ 1
+  pub own-lines : (line : List ℕ) → let p = parsed_of line in said_by (answer_line_of line) ≡ Some (said_of (outcome_of p).answer (pairs_of p))
+  pub own-number : (asked : List ℕ) → as_number (answers.number_in (outcome_of (parsed_of asked)).answer) (said_by (answer_line_of asked)) ≡ 1
   pub own-readable : (asked : List ℕ) → as_unreadable (said_by (answer_line_of asked)) ≡ 0
   pub own-counts :
-      (asked : List ℕ) → let o = (outcome_of (parsed_of asked)).answer in let s = said_by (answer_line_of asked) in o.number ≡ 0 →
-      (as_longest o.longest_sum s ≡ 1) × (rungs_in s ≡ o.rungs) × (backward_in s ≡ o.backward) × (zeros_in s ≡ nat_abs o.zeros)
+      (asked : List ℕ) → let o = (outcome_of (parsed_of asked)).answer in let s = said_by (answer_line_of asked) in answers.number_in o ≡ 0 →
+      (as_longest (answers.longest_in o) s ≡ 1) × (rungs_in s ≡ (answers.rungs_in o)) × (backward_in s ≡ (answers.backward_in o)) × (zeros_in s ≡ nat_abs (answers.zeros_in o))
 
 line-outcome :
     (page line : List ℕ) →
@@ -178,7 +176,7 @@ one_of_two a b =
 
 -- the last cells, by their places
 module _ (lines : List (List ℕ)) where
-  last-cell : (i : ℕ) (f : Reading → ℕ) → i < cells → ((s : Reading) → part_at i s ≡ f s) → get_or (page_of lines) i 0 ≡ total_of (λ line. f (said_by line)) lines
+  last-cell : (i : ℕ) (f : Option Record → ℕ) → i < cells → ((s : Option Record) → part_at i s ≡ f s) → get_or (page_of lines) i 0 ≡ total_of (λ line. f (said_by line)) lines
   unfolding cell_of
   last-cell i f h e = page-get lines i h ∙ total-as (λ line. part_at i (said_by line)) (λ line. f (said_by line)) lines (λ line. e (said_by line))
 

@@ -5,7 +5,7 @@ use lib.Ieee.{Float}
 use Rattle.complex.specs.declared.number.Complex.{Complex}
 use Rattle.recurrence.specs.declared.state.Climb.{Climb}
 use Rattle.recurrence.specs.declared.search.Search.{Search}
-use Rattle.recurrence.specs.declared.search.Rule.{Rule}
+use Rattle.recurrence.specs.Rule.{Rule}
 use Rattle.recurrence.specs.declared.first.FirstOrders.{FirstOrders}
 use Rattle.recurrence.specs.Climb.{climb_from}
 use Rattle.recurrence.specs.Fill.{fill_from}

@@ -1,4 +1,5 @@
 -- The claims of the sweep: its numbers, its points, the bytes, what is read back from them, the request line, and what C is handed. Assumes nothing.
+use Rattle.std.specs.Prelude.{Option, Some, None}
 use mathlib.Core.Path.{◌≡◌, refl, sym, ap, ◌∙◌, subst}
 use mathlib.Core.Bool.{false, not, ◌&&◌, ◌||◌}
 use mathlib.Core.List.{List, [], ◌∷◌, ◌++◌}
@@ -12,14 +13,11 @@ use Rattle.call.specs.Limits.{are_finite, sign_inside, size_inside}
 use Rattle.call.specs.Checks.{numbers_of}
 use Rattle.call.proofs.FirstFacts.{is_one_of}
 use Rattle.frame.specs.declared.asking.Fields.{Fields}
-use Rattle.frame.specs.declared.asking.Framed.TheVariants.{Frame}
 use Rattle.frame.specs.Over.{over, offered}
 use Rattle.frame.specs.Asking.{framed_of}
 use Rattle.frame.proofs.OverFacts.{offered-room, offered-none}
 use Rattle.answering.specs.Lines.{answers_of, output_of}
 use Rattle.sweeping.specs.declared.request.Request.{Request}
-use Rattle.sweeping.specs.declared.request.Requested.{Requested}
-use Rattle.sweeping.specs.declared.request.Requested.TheVariants.{Sought, NoRequest}
 use Rattle.sweeping.specs.Points.{normalised_request, whole, part_at, frames_up_to}
 use Rattle.sweeping.specs.Checks.{steps_inside, count_inside, frame_has, of_ends, ends_finite, ends_signed, ends_sized, sweep_checks}
 use Rattle.sweeping.specs.Sweep.{line_length, swept_of, frames_of}
@@ -35,10 +33,10 @@ use Rattle.capi.specs.Outcome.{sweep_of}
 use Rattle.claims.proofs.Determined.{Determined, Gives, one-outcome}
 
 -- the one of two lines that is taken by a sweep's number
-no-other-line : (q : Requested) → T (is_one_of (swept_by q).number (0 ∷ 13 ∷ 9 ∷ 1 ∷ 2 ∷ 3 ∷ 11 ∷ 12 ∷ []))
+no-other-line : (q : Option Request) → T (is_one_of (swept_by q).number (0 ∷ 13 ∷ 9 ∷ 1 ∷ 2 ∷ 3 ∷ 11 ∷ 12 ∷ []))
 unfolding swept_by
-no-other-line (Sought r) = (number-of-sweep r).no_other
-no-other-line NoRequest = tt
+no-other-line (Some r) = (number-of-sweep r).no_other
+no-other-line None = tt
 
 pub record OfSweep : Type 0 where
   -- the contract of `sweep` gives the number, how many bytes are needed, and the bytes that are lent: no second outcome fits it; C's neither
@@ -73,15 +71,15 @@ pub record OfSweep : Type 0 where
   pub read_back : (q : Request) → AreValues q → (swept_of q).number ≡ 0 → ReadBack q
   pub answers : (q : Request) → AreValues q → (swept_of q).number ≡ 0 → output_of (frames_of q) ≡ answers_of (lines_up_to (normalised_request q) q.steps)
   -- every line that the reader takes, within the limits and with no order or real part of -0, is the line of the sweep of one of its fields, whatever the last pair
-  pub one_line : (line : List ℕ) (f : Fields) → framed_of line ≡ Frame f → Taken f → (x y : Float) → frames_of (one_of f x y) ≡ line ++ (newline ∷ [])
-  pub one_number : (line : List ℕ) (f : Fields) → framed_of line ≡ Frame f → Taken f → (x y : Float) → (swept_of (one_of f x y)).number ≡ 0
+  pub one_line : (line : List ℕ) (f : Fields) → framed_of line ≡ Some f → Taken f → (x y : Float) → frames_of (one_of f x y) ≡ line ++ (newline ∷ [])
+  pub one_number : (line : List ℕ) (f : Fields) → framed_of line ≡ Some f → Taken f → (x y : Float) → (swept_of (one_of f x y)).number ≡ 0
   -- the last pair has no part in a sweep of one, refused or not
   pub alone : (r : Request) (x y x' y' : Float) → swept_of (alone_with r x y) ≡ swept_of (alone_with r x' y')
   pub alone-frames : (r : Request) (x y x' y' : Float) → frames_of (alone_with r x y) ≡ frames_of (alone_with r x' y')
   -- a request line: that of its request, or 9 and no frame
-  pub line : (line : List ℕ) (r : Request) → requested_of line ≡ Sought r → (line_swept line ≡ swept_of r) × (line_bytes line ≡ frames_of r)
-  pub line-number : (line : List ℕ) (r : Request) → requested_of line ≡ Sought r → NumberOfSweep (normalised_request r) (line_swept line).number
-  pub malformed : (line : List ℕ) → requested_of line ≡ NoRequest → ((line_swept line).number ≡ 9) × (line_bytes line ≡ [])
+  pub line : (line : List ℕ) (r : Request) → requested_of line ≡ Some r → (line_swept line ≡ swept_of r) × (line_bytes line ≡ frames_of r)
+  pub line-number : (line : List ℕ) (r : Request) → requested_of line ≡ Some r → NumberOfSweep (normalised_request r) (line_swept line).number
+  pub malformed : (line : List ℕ) → requested_of line ≡ None → ((line_swept line).number ≡ 9) × (line_bytes line ≡ [])
   -- docs/SCOPE.md's example, of which every field has a value of its own: none stands in another's place
   pub example : line_bytes example_request ≡ example_frames
   pub line-no-other : (line : List ℕ) → T (is_one_of (line_swept line).number (0 ∷ 13 ∷ 9 ∷ 1 ∷ 2 ∷ 3 ∷ 11 ∷ 12 ∷ []))
@@ -117,8 +115,8 @@ of-sweep = record {
   alone = alone-swept;
   alone-frames = alone-frames;
   line = λ line r e. (ap swept_by e, ap frames_in e);
-  line-number = λ line r e. subst (NumberOfSweep (normalised_request r)) (sym (ap (λ (q : Requested). (swept_by q).number) e)) (number-of-sweep r);
-  malformed = λ line e. (ap (λ (q : Requested). (swept_by q).number) e, ap frames_in e);
+  line-number = λ line r e. subst (NumberOfSweep (normalised_request r)) (sym (ap (λ (q : Option Request). (swept_by q).number) e)) (number-of-sweep r);
+  malformed = λ line e. (ap (λ (q : Option Request). (swept_by q).number) e, ap frames_in e);
   example = example-frames;
   line-no-other = λ line. no-other-line (requested_of line);
 }

@@ -29,7 +29,7 @@ TURNS = {
         ("a rung of the climb", (30, 27, 0, 6, 0), 5, 39, 1),
         ("a rung of the fill", (24, 20, 0, 4, 8), 4, 32, 1),
         ("a backward step of Miller's", (22, 24, 2, 0, 0), 2, 41, 1),
-        ("a term of Temme's, order whole", (27, 16, 2, 1, 0), 1, 77, 1),
+        ("a term of Temme's, order whole", (27, 16, 2, 1, 0), 1, 70, 1),
         ("a term of Temme's", (27, 19, 4, 1, 0), 1, 82, 1),
         ("a term of I, one sum of two", (32, 28, 4, 0, 0), 2, 50, 1),
         ("a term of I, a sum alone", (16, 12, 2, 0, 0), 1, 55, 1),

@@ -22,6 +22,8 @@ fn onward(two_over_z: Complex, base_order: f64, from: u32, to: u32, start: Climb
     c
 }
 
+// 2/z and the base order are two parameters, here as in `rung` and `fill`, whose signatures docs/TRACE.md quotes; a stretch has them in its Course.
+// The index goes on by the rungs of each part, not one by one.
 pub fn climb(two_over_z: Complex, base_order: f64, from: u32, to: u32, start: Climb) -> Climb
     requires { start.rungs + (to - from) < 2 ^ 32 }
     ensures { result ≡ climb_from two_over_z base_order from (to - from) start }

@@ -78,6 +78,7 @@ fn four_rungs<const WRITES: bool>(
 }
 
 // Rungs on which the state stays, four a turn: it stops before one that may move, and where less than four are left.
+// The index goes on by four and the place by eight; which turn is the last is known after it, so no chunks of the cells are walked.
 pub fn stretch<const WRITES: bool>(
     two_over_z: Complex,
     base_order: f64,

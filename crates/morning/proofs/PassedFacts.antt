@@ -12,9 +12,9 @@ use Rattle.splitting.specs.Cut.{closed_if, left_if, left_by, ended_in, part_of, 
 use Rattle.splitting.specs.Count.{counted}
 use Rattle.splitting.proofs.CutFacts.{last_some, left-append, ended-append}
 use Rattle.splitting.proofs.KeepFacts.{part-more}
-use Rattle.page.specs.Joining.{line_page}
+use Rattle.page.specs.Joining.{line_number, line_page}
 use Rattle.morning.specs.Ahead.{LineAhead}
-use Rattle.morning.specs.Tally.{refused_by, Grown}
+use Rattle.morning.specs.Tally.{one_unless, refused_by, Grown}
 use Rattle.splitting.specs.declared.state.State.TheVariants.{Going}
 use Rattle.morning.specs.declared.turn.Turn.{Turn}
 use Rattle.morning.specs.Turn.{most_held, Settled, Passed, PassedTo}
@@ -37,6 +37,15 @@ passed-again h a b p x line q y line' r z f g =
           (ap (λ (l : List ℕ). ended_in most_held h a ++ ended_in most_held l b) f.holds ∙ ended-append most_held h a b)
           (grown-again (ended_in most_held h a) (ended_in most_held line b) p x q y r z f.grown g.grown);
     }
+
+-- ---- a line added and counted, from what is known of each call
+pub line-added : (page page' line line' : List ℕ) → line' ≡ line → page' ≡ line_page page line' → page' ≡ line_page page line
+line-added page page' line line' e f = f ∙ ap (line_page page) e
+
+pub line_tallied :
+    (page line line' : List ℕ) (n before after : ℕ) → line' ≡ line → n ≡ line_number page line' → after ≡ counted (before + one_unless n) →
+    after ≡ counted (before + refused_by page line)
+line_tallied page line line' n before after e f g = g ∙ ap (λ (m : ℕ). counted (before + one_unless m)) (f ∙ ap (line_number page) e)
 
 -- ---- a line as far as it is held
 module _ (held page : List ℕ) (before : ℕ) where

@@ -95,10 +95,10 @@ impl Morning {
     fn close(&mut self)
         ensures { AtEnd self.old.line self.old.page self.old.turn.refused self.new.page self.new.turn }
     {
+        self.turn.state = State::Whole;
         if !self.line.is_empty() {
             self.turn.refused = tally(self.turn.refused, add_line(&mut self.page, self.line.held()));
         }
-        self.turn.state = State::Whole;
     }
 }
 

@@ -7,6 +7,7 @@ use native.Mathlib.Nat.{le_of_lt}
 use native.Mathlib.Omega.{arith}
 use lib.ListN.{length, take}
 use lib.Seq.{take_all}
+use Rattle.splitting.specs.Cut.{part_of}
 use Rattle.answering.specs.Feed.{fed_of, owed_of, kept_of}
 use Rattle.lichenoar.specs.Turn.{tallied}
 use Rattle.lichenoar.proofs.TurnFacts.{adds_none, kept_next, adds-next}
@@ -17,7 +18,23 @@ unfolding owed_of kept_of fed_of
 loop-at-init c = record { high = omega arith; going = c.requires; holds = refl; adds = adds_none c.args.self.now.turn.sent }
 
 pub loop-at-preserved : goal.loop-at-preserved
-loop-at-preserved c = ?
+loop-at-preserved c =
+    let d = c.in-Some.ensures in
+    let v = c.loop-at.invariant in
+    let s = c.args.self.now in
+    let chunk = c.args.chunk.now in
+    let last = c.loop-at.self in
+    record {
+      high = d.high;
+      going = d.same ∙ v.going;
+      holds = d.holds ∙ kept_next chunk s.buffers.line last.buffers.line c.loop-at.at c.in-Some.next (le_of_lt d.low) v.holds;
+      adds =
+          adds-next chunk s.buffers.line last.buffers.line c.loop-at.at c.in-Some.next (le_of_lt d.low) v.holds s.turn.sent last.turn.sent c.deliver.new.self.turn.sent
+          (length (owed_of last.buffers.line (part_of chunk c.loop-at.at c.in-Some.next)))
+          v.adds
+          refl
+          d.sent;
+    }
 
 pub returns : goal.returns
 returns c =

@@ -1,10 +1,10 @@
 -- `lichenoar::lines::Answers::close` meets its contract: the answer line behind what is written, and the newline behind it. Assumes nothing.
-use mathlib.Core.Path.{◌≡◌, sym, ap, ◌∙◌}
+use mathlib.Core.Path.{◌≡◌, ap, ◌∙◌}
 use mathlib.Core.List.{List}
 use Prim.Native.Nat.{ℕ, ◌+◌, ◌-◌, ◌≤◌}
 use native.Mathlib.Omega.{arith}
 use borrow.Rule.Slice.PartMut.{mid_of, put_mid}
-use lib.ListN.{length, take, length-set}
+use lib.ListN.{length, take}
 use lib.Seq.{length-take-le}
 use Rattle.std.specs.Prelude.{Option}
 use Rattle.frame.specs.declared.asking.Asking.{Asking}
@@ -29,6 +29,39 @@ room d f w e h l r = let n = length-take-le f d (omega arith) in let m = ap leng
 pub overflow_add-end : goal.overflow_add-end
 overflow_add-end c =
     let d = c.self.inside.bytes in
-    let r = room d c.self.inside.filled _ c.self.view_is c.self.invariant ? c.requires in
-    let k = behind c.args.parsed d _ c.self.inside.filled _ r c.answer_parsed-n.ensures.0 c.answer_parsed-n.ensures.1 in
-    omega (arith, k.most, r)
+    let f = c.self.inside.filled in
+    let r = room d f c.args.self.now c.self.view_is c.self.invariant c.self.told c.requires in
+    let k = behind c.args.parsed d c.answer_parsed-n.new.out f c.answer_parsed-n.result r c.answer_parsed-n.ensures.0 c.answer_parsed-n.ensures.1 in
+    omega (arith, k.most, c.self.invariant)
+
+pub bounds-bytes-end : goal.bounds-bytes-end
+bounds-bytes-end c =
+    let d = c.self.inside.bytes in
+    let f = c.self.inside.filled in
+    let r = room d f c.args.self.now c.self.view_is c.self.invariant c.self.told c.requires in
+    let k = behind c.args.parsed d c.answer_parsed-n.new.out f c.answer_parsed-n.result r c.answer_parsed-n.ensures.0 c.answer_parsed-n.ensures.1 in
+    omega (arith, k.most, k.long, r)
+
+pub overflow_add-self : goal.overflow_add-self
+overflow_add-self c =
+    let d = c.self.inside.bytes in
+    let f = c.self.inside.filled in
+    let r = room d f c.args.self.now c.self.view_is c.self.invariant c.self.told c.requires in
+    let k = behind c.args.parsed d c.answer_parsed-n.new.out f c.answer_parsed-n.result r c.answer_parsed-n.ensures.0 c.answer_parsed-n.ensures.1 in
+    record { fits = omega (arith, k.most, c.self.invariant) }
+
+pub invariant_of-self : goal.invariant_of-self
+invariant_of-self c =
+    let d = c.self.inside.bytes in
+    let f = c.self.inside.filled in
+    let r = room d f c.args.self.now c.self.view_is c.self.invariant c.self.told c.requires in
+    let k = behind c.args.parsed d c.answer_parsed-n.new.out f c.answer_parsed-n.result r c.answer_parsed-n.ensures.0 c.answer_parsed-n.ensures.1 in
+    omega (arith, k.most, r, c.self.told)
+
+pub returns : goal.returns
+returns c =
+    let d = c.self.inside.bytes in
+    let f = c.self.inside.filled in
+    let r = room d f c.args.self.now c.self.view_is c.self.invariant c.self.told c.requires in
+    let k = behind c.args.parsed d c.answer_parsed-n.new.out f c.answer_parsed-n.result r c.answer_parsed-n.ensures.0 c.answer_parsed-n.ensures.1 in
+    k.closed ∙ ap (with_line (parsed_line c.args.parsed)) c.self.view_is

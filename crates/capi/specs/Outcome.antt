@@ -3,7 +3,7 @@ use Rattle.std.specs.Prelude.{ℕ, Bool, not, eqb, Result, Ok, Err, Float}
 use Rattle.machine.specs.Constants.{not_a_number}
 use Rattle.refusal.specs.Number.{number_of}
 use Rattle.refusal.specs.declared.refusal.Refusal.{Refusal}
-use Rattle.call.specs.declared.answer.Answer as calls
+use Rattle.call.specs.Answer as calls
 use Rattle.capi.specs.declared.LogGamma.{LogGamma}
 use Rattle.sweeping.specs.declared.request.Request.{Request}
 use Rattle.sweeping.specs.Sweep.{Swept}
@@ -20,7 +20,7 @@ is_scaled s = not (eqb s 0)
 
 -- C's record of five fields, whatever else the library's own comes to hold
 abbrev pub answer_of : calls.Answer → Answer
-answer_of a = record { number = a.number; zeros = a.zeros; longest_sum = a.longest_sum; rungs = a.rungs; backward = a.backward }
+answer_of a = record { number = calls.number_in a; zeros = calls.zeros_in a; longest_sum = calls.longest_in a; rungs = calls.rungs_in a; backward = calls.backward_in a }
 
 -- ---- a sweep: what is asked for, and C's record of two fields
 abbrev pub request_of : ℕ → ℕ → ℕ → Float → Float → Float → Float → Float → ℕ → Request

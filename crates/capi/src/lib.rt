@@ -137,15 +137,26 @@ pub struct Answer {
     pub backward: u32,
 }
 
-fn projected(a: answer::Answer) -> Answer
-    ensures { result ≡ answer_of a }
-{
-    Answer {
-        number: a.number,
-        zeros: a.zeros,
-        longest_sum: a.longest_sum,
-        rungs: a.rungs,
-        backward: a.backward,
+impl From<answer::Answer> for Answer {
+    ghost from_gives = { λ a r. r ≡ answer_of a };
+
+    fn from(a: answer::Answer) -> Answer {
+        match a {
+            Ok(counts) => Answer {
+                number: 0,
+                zeros: counts.zeros,
+                longest_sum: counts.longest_sum,
+                rungs: counts.rungs,
+                backward: counts.backward,
+            },
+            Err(refusal) => Answer {
+                number: refusal.number(),
+                zeros: 0,
+                longest_sum: 0,
+                rungs: 0,
+                backward: 0,
+            },
+        }
     }
 }
 
@@ -154,7 +165,7 @@ pub fn lichenoar_i(scaled: u8, v: f64, re: f64, im: f64, out: &mut [f64]) -> Ans
     ensures { (result ≡ answer_of (i_outcome (is_scaled scaled) v re im (length out.old)).answer)
         × (out.new ≡ (i_outcome (is_scaled scaled) v re im (length out.old)).cells) }
 {
-    projected(bessel::i::i(scaled != 0, v, re, im, out))
+    Answer::from(bessel::i::i(scaled != 0, v, re, im, out))
 }
 
 // n orders of K into the 2n lent cells, as for I.
@@ -162,7 +173,7 @@ pub fn lichenoar_k(scaled: u8, v: f64, re: f64, im: f64, out: &mut [f64]) -> Ans
     ensures { (result ≡ answer_of (k_outcome (is_scaled scaled) v re im (length out.old)).answer)
         × (out.new ≡ (k_outcome (is_scaled scaled) v re im (length out.old)).cells) }
 {
-    projected(bessel::k::k(scaled != 0, v, re, im, out))
+    Answer::from(bessel::k::k(scaled != 0, v, re, im, out))
 }
 
 // The refusal's number or 0, and how many bytes the frames are: 57 a step.

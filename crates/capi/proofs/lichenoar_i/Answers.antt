@@ -6,4 +6,4 @@ use Rattle.capi.proofs.lichenoar_i.Goals as goal
 pub returns : goal.returns
 returns c =
     let d = c.i.ensures in
-    (c.projected.ensures ∙ ap answer_of d.0, d.1)
+    (c.from.ensures ∙ ap answer_of d.0, d.1)

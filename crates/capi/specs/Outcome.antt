@@ -6,7 +6,7 @@ use Rattle.refusal.specs.declared.refusal.Refusal.{Refusal}
 use Rattle.call.specs.declared.answer.Answer as calls
 use Rattle.capi.specs.declared.LogGamma.{LogGamma}
 use Rattle.sweeping.specs.declared.request.Request.{Request}
-use Rattle.sweeping.specs.declared.sweep.Swept.{Swept}
+use Rattle.sweeping.specs.Sweep.{Swept}
 use Rattle.capi.specs.declared.Answer.{Answer}
 use Rattle.capi.specs.declared.Sweep.{Sweep}
 

@@ -16,6 +16,7 @@ ghost use Rattle.circular.specs.CosPi.{cos_pi_of};
 ghost use Rattle.angle.specs.Angle.{angle_of};
 ghost use Rattle.rounding.specs.Round.{round_of};
 ghost use Rattle.gamma_ln.specs.LogGamma.{log_gamma_of};
+ghost use Rattle.call.specs.Checks.{number_given};
 ghost use Rattle.frame.specs.Over.{offered};
 ghost use Rattle.sweeping.specs.Sweep.{swept_of, frames_of};
 ghost use Rattle.page.specs.Joining.{join_number, join_page, line_number, line_page};
@@ -26,6 +27,7 @@ ghost use Rattle.bessel.specs.K.{k_outcome};
 use call::answer;
 use gamma_ln::log_gamma::log_gamma;
 use machine::constants::not_a_number;
+use refusal::refusal::Refusal;
 use sweeping::request::Request;
 
 pub fn lichenoar_sqrt(x: f64) -> f64
@@ -201,9 +203,22 @@ pub fn lichenoar_sweep(
         },
         out,
     );
-    Sweep {
-        number: swept.number,
-        needed: swept.needed,
+    match swept {
+        Ok(needed) => Sweep { number: 0, needed },
+        Err(r) => Sweep {
+            number: r.number(),
+            needed: 0,
+        },
+    }
+}
+
+#[tactic(auto, unfolding(call::specs::Checks::number_given))]
+fn number_given(verdict: Result<(), Refusal>) -> u32
+    ensures { result ≡ number_given verdict }
+{
+    match verdict {
+        Ok(()) => 0,
+        Err(refusal) => refusal.number(),
     }
 }
 
@@ -213,7 +228,7 @@ pub fn lichenoar_page_line(page: &mut [u64; 58], line: &[u8]) -> u32
     ensures { (result ≡ line_number page.old line.now)
         × (page.new ≡ line_page page.old line.now) }
 {
-    page::adding::add_line(page, line)
+    number_given(page::adding::add_line(page, line))
 }
 
 // One page added to another, which is another one: 0, or 15 with both as they were.
@@ -221,5 +236,5 @@ pub fn lichenoar_page_join(into: &mut [u64; 58], from: &[u64; 58]) -> u32
     ensures { (result ≡ join_number into.old from.now)
         × (into.new ≡ join_page into.old from.now) }
 {
-    page::adding::join(into, from)
+    number_given(page::adding::join(into, from))
 }

@@ -3,7 +3,6 @@ pub mod OverFacts
 pub mod DigitFacts
 pub mod SpellFacts
 pub mod FieldFacts
-pub mod SignFacts
 pub mod WordFacts
 pub mod WriteFacts
 pub mod ReadFacts

@@ -1,16 +1,15 @@
 -- Two bytes in two's complement: a count of zeros that fits them comes back with its sign, and two bytes that are read are written again.
 -- Assumes nothing.
-use mathlib.Core.Path.{◌≡◌, refl, sym, ap, ◌∙◌, subst}
+use mathlib.Core.Path.{◌≡◌, refl, ap, ◌∙◌}
 use mathlib.Core.Bool.{Bool, true, false}
-use Prim.Native.Nat.{ℕ, zero, suc, ◌-◌, ◌%◌, ◌≤◌, ◌<◌}
-use native.Mathlib.Nat.{zero-add}
+use Prim.Native.Nat.{ℕ, ◌-◌, ◌%◌, ◌≤◌, ◌<◌}
 use native.Mathlib.Omega.{arith}
 use borrow.Author.Tests.{lt-ltb, le-ltb, ltb-true, ltb-false}
 use lib.Dec.{ltb}
-use lib.IntN.{ℤ, pos, negsuc, ◌-ℤ◌}
+use lib.IntN.{ℤ, pos, negsuc}
 use mir.Syntax.{w32}
 use mir.Val.{SFits, to_z, of_z}
-use mir.Facts.{to_z-of_z, to_z_pos}
+use mir.Facts.{to_z-of_z}
 use Rattle.frame.specs.Writing.{twos_complement}
 use Rattle.frame.specs.Reading.{signed_word, FitsWord}
 
@@ -46,18 +45,8 @@ module _ (w : ℕ) (h : w < 65536) where
   pub word_fits : FitsWord (signed_word w)
   word_fits = fits-if (ltb w 32768) refl
 
--- ---- as the machine has it: a field of 32 bits holds it, and so does the difference that makes it
-less_one : (k : ℕ) → negsuc 0 -ℤ pos k ≡ negsuc k
-less_one zero = refl
-less_one (suc k) = ap (λ (n : ℕ). negsuc (suc n)) (zero-add k)
-
+-- ---- as the machine has it: a field of 32 bits holds it
 module _ (w : ℕ) (h : w < 65536) where
-  pub difference : negsuc 0 -ℤ to_z w32 (65535 - w) ≡ negsuc (65535 - w)
-  difference = ap (λ (z : ℤ). negsuc 0 -ℤ z) (to_z_pos w32 {n = 65535 - w} (omega arith)) ∙ less_one (65535 - w)
-
-  pub difference-fits : SFits w32 (negsuc 0 -ℤ to_z w32 (65535 - w))
-  difference-fits = subst (SFits w32) (sym difference) (record { sfits = omega arith })
-
   held-if : (b : Bool) → ltb w 32768 ≡ b → SFits w32 (signed_word w)
   unfolding signed_word
   held-if true e = rw e (record { sfits = omega arith })

@@ -25,14 +25,12 @@ pub struct Record {
 }
 
 // A count of zeros in two bytes.
+#[tactic(auto, using(std::proofs::lemmas::Bool::Decides::nat_tests), unfolding(crate::specs::Reading::signed_word))]
 fn signed_word(word: u32) -> i32
     requires { word < 65536 }
     ensures { result ≡ signed_word word }
 {
-    if word < 32768 {
-        return word as i32;
-    }
-    -1 - ((65535 - word) as i32)
+    i32::from((word as u16).cast_signed())
 }
 
 fn read_record(digits: &Digits) -> Record

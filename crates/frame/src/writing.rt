@@ -24,13 +24,11 @@ const NO_COUNTS: Counts = Counts {
 };
 
 // A count of zeros in two bytes.
+#[tactic(auto, using(std::proofs::lemmas::Bool::Decides::nat_tests), unfolding(crate::specs::Writing::twos_complement))]
 fn twos_complement(zeros: i32) -> u64
     ensures { result ≡ twos_complement zeros }
 {
-    if zeros < 0 {
-        return 65535 - ((-1 - zeros) as u64) % 65536;
-    }
-    (zeros as u64) % 65536
+    u64::from(zeros.cast_unsigned() % 65536)
 }
 
 // What the record says: of a refusal its number, and no counts.

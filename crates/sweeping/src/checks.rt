@@ -73,7 +73,6 @@ fn ends_sized(r: Request) -> bool
     )
 }
 
-#[tactic(auto, unfolding(crate::specs::Checks::sweep_checks, call::specs::Checks::verdict_of, call::specs::Checks::verdict_from, call::specs::Checks::refused_if))]
 pub fn sweep_verdict(r: Request) -> Result<(), Refusal>
     ensures { result ≡ verdict_of (sweep_checks r) }
 {

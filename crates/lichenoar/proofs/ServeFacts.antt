@@ -1,17 +1,11 @@
 -- One read after the others: what was read so far, and one read more; what the whole run comes to. Assumes nothing.
 use mathlib.Core.Path.{◌≡◌, refl, sym, ap, ◌∙◌, subst}
-use mathlib.Core.Bool.{true, false}
 use mathlib.Core.Logic.{inl, inr}
 use mathlib.Core.List.{List, [], ◌∷◌, ◌++◌}
 use Prim.Native.Nat.{ℕ, ◌+◌, ◌≤◌, ◌<◌, min}
 use native.Mathlib.Omega.{arith}
-use borrow.Author.Tests.{ltb-true}
-use lib.Dec.{T}
-use lib.IntN.{ℤ, pos, negsuc}
+use lib.IntN.{pos, negsuc}
 use lib.ListN.{length, take, length-append}
-use lib.Seq.{length-take-le}
-use lib.Signed.{lt_z}
-use Rattle.io.specs.Counts.{clamp_len}
 use Rattle.splitting.specs.declared.state.State.TheVariants.{Going, Unwritten}
 use Rattle.lichenoar.specs.declared.turn.Turn.{Turn}
 use Rattle.answering.specs.Lines.{output_of}

@@ -5,7 +5,6 @@ use Prim.Native.Nat.{ℕ, ◌+◌, ◌≤◌, ◌<◌}
 use native.Mathlib.Nat.{mod-mod, mod-add-mod}
 use native.Mathlib.Omega.{arith}
 use lib.ListN.{length, take, length-append}
-use lib.Seq.{length-take-le}
 use Rattle.splitting.specs.Lines.{newline}
 use Rattle.splitting.specs.Cut.{part_of}
 use Rattle.answering.specs.Feed.{Feed, step_if, step_of, fed_of, ended_from, owed_of, kept_of}

@@ -1,16 +1,11 @@
 -- One read after the others, and what the whole run comes to. Assumes nothing.
-use mathlib.Core.Path.{◌≡◌, sym, ap, ◌∙◌, subst}
-use mathlib.Core.Bool.{true, false}
+use mathlib.Core.Path.{◌≡◌, ap, ◌∙◌, subst}
 use mathlib.Core.List.{List, [], ◌∷◌, ◌++◌}
 use Prim.Native.Nat.{ℕ, ◌+◌, ◌≤◌, ◌<◌, min}
 use native.Mathlib.Omega.{arith}
-use borrow.Author.Tests.{ltb-true}
-use lib.Dec.{T}
-use lib.IntN.{ℤ, pos, negsuc}
+use lib.IntN.{pos, negsuc}
 use lib.ListN.{length, take}
-use lib.Seq.{length-take-le, take_all}
-use lib.Signed.{lt_z}
-use Rattle.io.specs.Counts.{clamp_len}
+use lib.Seq.{take_all}
 use Rattle.splitting.specs.Lines.{last_of, lines_of}
 use Rattle.splitting.specs.Cut.{ended_in}
 use Rattle.splitting.specs.Count.{counted}
@@ -23,7 +18,7 @@ use Rattle.page.specs.Joining.{empty_page}
 use Rattle.page.proofs.PageFacts.{night}
 use Rattle.morning.specs.declared.turn.Turn.{Turn}
 use Rattle.morning.specs.Tally.{Grown}
-use Rattle.morning.specs.Turn.{most_held, Passed, PassedTo, AtEnd, TakenSome, TakenRead, Reached, Served}
+use Rattle.morning.specs.Turn.{most_held, PassedTo, AtEnd, TakenSome, TakenRead, Reached, Served}
 use Rattle.morning.proofs.TallyFacts.{grown-again, grown-shortened, too_many}
 use Rattle.morning.proofs.PassedFacts.{passed_none, passed-again}
 

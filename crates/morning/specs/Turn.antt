@@ -1,5 +1,5 @@
 -- What some bytes, a read and the whole run come to: what is held, the page, the lines too many, and how it ended. Definitions only.
-use Rattle.std.specs.Prelude.{◌≡◌, Bool, List, [], ◌∷◌, ℕ, ◌-◌, ◌≤◌, min, ℤ, pos, negsuc, length, take}
+use Rattle.std.specs.Prelude.{◌≡◌, Bool, List, [], ◌∷◌, ℕ, ◌-◌, min, ℤ, pos, negsuc, length, take}
 use Rattle.splitting.specs.Lines.{last_of, lines_of}
 use Rattle.splitting.specs.Cut.{left_by, left_if, ended_in, closed_if}
 use Rattle.splitting.specs.Count.{Adds}

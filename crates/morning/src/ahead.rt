@@ -7,7 +7,8 @@ use frame::digits::are_digits;
 use frame::layout::{LONGEST_LINE, PAIR_WIDTH, RECORD_LENGTH};
 use splitting::cut::NEWLINE;
 
-// Pair by pair, behind a record.
+// Pair by pair, behind a record. `for n in (RECORD_LENGTH..=LONGEST_LINE).step_by(PAIR_WIDTH)` would be no plainer: it needs a test that there is
+// a byte at n in the place of the loop's, and the test that n is the last still, since else a pair behind the longest line would be looked at.
 fn pairs_ahead(chunk: &[u8], at: usize) -> Option<usize>
     requires { StartsWell chunk.now at }
     ensures { IfSome result (LineAhead chunk.now at) }

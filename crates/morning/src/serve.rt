@@ -43,7 +43,10 @@ impl Morning {
             × (self.new.turn.state ≡ self.old.turn.state) }
     {
         if ended {
-            self.turn.refused = tally(self.turn.refused, add_line(&mut self.page, self.line.held()));
+            self.turn.refused = tally(
+                self.turn.refused,
+                add_line(&mut self.page, self.line.held()),
+            );
             self.line.clear();
         }
     }
@@ -73,7 +76,10 @@ impl Morning {
     {
         if self.line.is_empty() {
             if let Some(n) = digits_ahead(chunk, at) {
-                self.turn.refused = tally(self.turn.refused, add_digits(&mut self.page, &chunk[at..at + n]));
+                self.turn.refused = tally(
+                    self.turn.refused,
+                    add_digits(&mut self.page, &chunk[at..at + n]),
+                );
                 return at + n + 1;
             }
         }
@@ -97,7 +103,10 @@ impl Morning {
     {
         self.turn.state = State::Whole;
         if !self.line.is_empty() {
-            self.turn.refused = tally(self.turn.refused, add_line(&mut self.page, self.line.held()));
+            self.turn.refused = tally(
+                self.turn.refused,
+                add_line(&mut self.page, self.line.held()),
+            );
         }
     }
 }

@@ -1,11 +1,9 @@
 -- `morning::rows::put_refused` meets its contract: row after row. Assumes nothing.
-use mathlib.Core.Path.{◌≡◌, sym, ap, ◌∙◌}
+use mathlib.Core.Path.{sym, ap, ◌∙◌}
 use mathlib.Core.List.{List, ◌++◌, append-nil}
-use Prim.Native.Nat.{ℕ, ◌+◌}
+use Prim.Native.Nat.{ℕ}
 use native.Mathlib.Numerals.{add-one}
 use native.Mathlib.Omega.{arith}
-use lib.ListN.{get_or}
-use Rattle.page.specs.Layout.{longest_at}
 use Rattle.morning.specs.Rows.{number_row, refused_rows}
 use Rattle.morning.proofs.RowFacts.{two}
 use Rattle.morning.proofs.rows.put_refused.Goals as goal

@@ -1,8 +1,6 @@
 -- `morning::rows::put_row` meets its contract: three pieces, one behind the other. Assumes nothing.
 use mathlib.Core.List.{[], ◌∷◌}
-use mathlib.Core.Path.{ap}
 use native.Mathlib.Omega.{arith}
-use lib.ListN.{length, length-append}
 use Rattle.splitting.specs.Lines.{newline}
 use Rattle.wording.specs.Decimal.{decimal_of}
 use Rattle.wording.proofs.DecimalFacts.{numbered_is}

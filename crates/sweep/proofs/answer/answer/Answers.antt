@@ -1,5 +1,5 @@
 -- `sweep::answer::answer` meets its contract: by the result. Assumes nothing.
-use mathlib.Core.Path.{◌≡◌, sym, ap}
+use mathlib.Core.Path.{sym, ap}
 use Prim.Native.Nat.{◌≤◌}
 use native.Mathlib.Omega.{arith}
 use lib.ListN.{length}
@@ -17,7 +17,7 @@ pub slice_bounds-accept-end-in-Ok : goal.slice_bounds-accept-end-in-Ok
 slice_bounds-accept-end-in-Ok c =
     let a = c.args in
     let room : c.in-Ok.needed ≤ length c.sweep_line.new.out =
-        omega (arith, frames-room a.line.now a.out.now a.out.now c.in-Ok.needed (ap (λ (x : Swept). x.needed) c.in-Ok.ensures.0) c.requires, c.sweep_line.auto.out) in
+    omega (arith, frames-room a.line.now a.out.now a.out.now c.in-Ok.needed (ap (λ (x : Swept). x.needed) c.in-Ok.ensures.0) c.requires, c.sweep_line.auto.out) in
     sym (length-take-le c.in-Ok.needed c.sweep_line.new.out room)
 
 pub accept-requires : goal.accept-requires

@@ -1,5 +1,5 @@
 -- `lichenoar::deliver::Answerer::deliver` meets its contract: what is handed on is what the bytes taken complete. Assumes nothing.
-use mathlib.Core.Path.{◌≡◌, refl, sym, ap, ◌∙◌}
+use mathlib.Core.Path.{refl, sym, ap, ◌∙◌}
 use mathlib.Core.List.{List}
 use Prim.Native.Nat.{ℕ, ◌+◌}
 use lib.ListN.{length}

@@ -1,5 +1,5 @@
 -- `lichenoar::lines::Buffers::advance` meets its contract: frame by frame or byte by byte, and at least one byte. Assumes nothing.
-use mathlib.Core.Path.{refl, sym, ap, ◌∙◌}
+use mathlib.Core.Path.{sym, ap, ◌∙◌}
 use native.Mathlib.Omega.{arith}
 use Rattle.splitting.specs.Cut.{part_of}
 use Rattle.answering.specs.Feed.{Feed, fed_of}

@@ -1,12 +1,12 @@
 -- `lichenoar::lines::Buffers::take_byte` meets its contract: the line closed, or the byte kept. Assumes nothing.
 use mathlib.Core.Path.{◌≡◌, sym, ap, ◌∙◌}
-use mathlib.Core.List.{List, [], ◌∷◌, ◌++◌}
+use mathlib.Core.List.{List, []}
 use Prim.Native.Nat.{ℕ}
 use Rattle.std.specs.Prelude.{Option}
 use Rattle.frame.specs.declared.asking.Asking.{Asking}
 use Rattle.frame.specs.Asking.{parsed_of}
 use Rattle.answering.specs.Line.{answer_line_of, parsed_line}
-use Rattle.answering.specs.Feed.{Feed, step_of, with_line, closed_of}
+use Rattle.answering.specs.Feed.{step_of, with_line, closed_of}
 use Rattle.answering.proofs.FeedFacts.{feed, step-newline, step_other}
 use Rattle.lichenoar.proofs.lines.Buffers.take_byte.Goals as goal
 

@@ -1,7 +1,6 @@
 -- `lichenoar::lines::Buffers::take_some` meets its contract: a frame closed where it stands, or a byte. Assumes nothing.
-use mathlib.Core.List.{List}
 use mathlib.Core.Path.{sym, ap, ◌∙◌}
-use Prim.Native.Nat.{ℕ, ◌+◌, ◌-◌}
+use Prim.Native.Nat.{◌+◌, ◌-◌}
 use native.Mathlib.Omega.{arith}
 use borrow.Author.Tests.{eqb-true}
 use lib.ListN.{length}
@@ -21,7 +20,7 @@ returns-in-Some c =
       omega arith,
       omega (arith, a.0.room),
       frame-taken p.chunk.now s.line s.out _ p.at (p.at + 57 - p.at) _ a.0 a.1 (eqb-true (length s.line) 0 (sym c.is_empty.ensures ∙ c.if-is_empty.true)) (omega arith)
-      (c.close.ensures ∙ ap (λ (q : Option Asking). with_line (parsed_line q) s.out) c.asked.ensures),
+          (c.close.ensures ∙ ap (λ (q : Option Asking). with_line (parsed_line q) s.out) c.asked.ensures),
     )
 
 pub returns : goal.returns

@@ -1,5 +1,4 @@
 -- `morning::serve::Morning::consume` meets its contract: line after line of the chunk. Assumes nothing.
-use mathlib.Core.Path.{refl}
 use native.Mathlib.Omega.{arith}
 use Rattle.morning.proofs.PassedFacts.{passed_none, consumed-more, consumed-all}
 use Rattle.morning.proofs.serve.Morning.consume.Goals as goal

@@ -57,7 +57,7 @@ returns c =
     simp (
       d.upper-r.ensures,
       d.is_sign_negative.ensures,
-      negative-at e.args.x (subst T (sym e.well_formed.1.0.1) tt) (equals_itself e.args.x e.if-x.false),
+      negative-at d.args.x (subst T (sym d.well_formed.1.0.1) tt) (equals_itself d.args.x d.if-x.false),
       d.magnitude-2.ensures,
       e.magnitude.ensures,
       number _ e.if-y.false,

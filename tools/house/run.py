@@ -82,9 +82,12 @@ def rust(house, module, numbers):
     code = re.sub(r"(?m)^fn main\(", "pub fn main(", code)
     code = re.sub(r"\bHostRuntime\b", "crate::HostRuntime", code)
     code = re.sub(r"(?m)^\s*#!?\[tactic\([^\n]*\]$", "", code)
-    # the kit's derives are others
+    # the kit's derives are others, and what clauses see of a type is for proofs
     code = re.sub(r"(?m)^\s*#\[derive\([^\n]*\]\n(?=(?:pub )?(?:struct|enum) )", "", code)
-    return re.sub(r"(?m)^((?:pub )?(?:struct|enum) )", r"#[derive(Clone, Copy)] \1", code)
+    code = re.sub(r"(?m)^use std::marker::Model;$", "", code)
+    # a function of the kit's that is a cast in Rust
+    code = re.sub(r"(?m)^use std::num::saturating_f64_to_u32;$", "fn saturating_f64_to_u32(x: f64) -> u32 { x as u32 }", code)
+    return re.sub(r"(?m)^((?:pub )?(?:struct|enum) )", r"#[derive(Clone, Copy, Debug, PartialEq)] \1", code)
 
 
 def calls_of(house, start, lines):

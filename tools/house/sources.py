@@ -28,8 +28,11 @@ def bare(path):
 
 
 def code_of(text):
-    """A source's text without its lines `ghost use ..;`, each line at its number."""
-    return re.sub(r"(?m)^ghost use[^;]*;", lambda m: "\n" * m.group().count("\n"), text)
+    """A source's text without what is for proofs alone, `ghost use ..;`, ghost members and fields, and what a type is seen as (`impl Model`), each line at its number."""
+    blank = lambda m: "\n" * m.group().count("\n")
+    text = re.sub(r"(?m)^[ \t]*ghost use[^;]*;", blank, text)
+    text = re.sub(r"(?m)^impl\b[^{;\n]* Model for [^{]*\{(?:[^{}]|\{[^{}]*\})*\}$", blank, text)
+    return re.sub(r"(?m)^[ \t]*(?:pub(?:\(crate\))? )?ghost \w+\s*[:=]\s*\{(?:[^{}]|\{[^{}]*\})*\}\s*[;,]", blank, text)
 
 
 def uses():

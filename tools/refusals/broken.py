@@ -112,8 +112,8 @@ def of_claims(one):
     else:
         yield Edit("claims", f"a line with {one.number}", path, a_line, rf"\g<a> {one.number} ∷\g<l>")
     if "frame" in one.given_by:
-        yield Edit("claims", f"frames get another number than {one.number}", path, rf"(?P<a>number ≡ ){one.number}(?P<b> → parsed_of line ≡ Malformed)", r"\g<a>99\g<b>")
-        no_request = rf"(?P<a>NoRequest → \(\(line_swept line\)\.number ≡ ){one.number}(?=\))"
+        yield Edit("claims", f"frames get another number than {one.number}", path, rf"(?P<a>number ≡ ){one.number}(?P<b> → parsed_of line ≡ None)", r"\g<a>99\g<b>")
+        no_request = rf"(?P<a>requested_of line ≡ None → \(\(line_swept line\)\.number ≡ ){one.number}(?=\))"
         yield Edit("claims", f"requests get another number than {one.number}", same.SWEEPS, no_request, r"\g<a>99")
 
 

@@ -95,11 +95,11 @@ def claims(entries, top):
         got[f"{giver}, {field}"] = sorted(map(int, re.findall(r"\d+", others[others.rindex("("):])))
         wanted[f"{giver}, {field}"] = [0] + wanted[giver]
     # a request line that is none
-    none = re.findall(r"requested_of line ≡ NoRequest → \(\(line_swept line\)\.number ≡ (\d+)\)", record_of(top, *RECORDS["sweep"]))
+    none = re.findall(r"requested_of line ≡ None → \(\(line_swept line\)\.number ≡ (\d+)\)", record_of(top, *RECORDS["sweep"]))
     got["no request"] = list(map(int, none))
     wanted["no request"] = [one.number for one in entries if one.case == "Malformed"]
     body = record_of(top, CLAIMS, "OfLines")
-    got["frame"] = sorted(set(map(int, re.findall(r"number ≡ (\d+) → parsed_of line ≡ Malformed", body))))
+    got["frame"] = sorted(set(map(int, re.findall(r"number ≡ (\d+) → parsed_of line ≡ None", body))))
     # an answer line has one of these: what K, I and the program give, and 0
     got["a line"] = sorted(map(int, re.findall(r"\d+", part(body, r"^  pub no_other : \(line\b[^\n]*\(0", r"\[\]", "the numbers of a line"))))
     wanted["a line"] = sorted({0}.union(*(wanted[giver] for giver in ("K", "I", "frame"))))

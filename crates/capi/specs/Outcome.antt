@@ -20,7 +20,13 @@ is_scaled s = not (eqb s 0)
 
 -- C's record of five fields, whatever else the library's own comes to hold
 abbrev pub answer_of : calls.Answer → Answer
-answer_of a = record { number = calls.number_in a; zeros = calls.zeros_in a; longest_sum = calls.longest_in a; rungs = calls.rungs_in a; backward = calls.backward_in a }
+answer_of a = record {
+  number = calls.number_in a;
+  zeros = calls.zeros_in a;
+  longest_sum = calls.longest_in a;
+  rungs = calls.rungs_in a;
+  backward = calls.backward_in a;
+}
 
 -- ---- a sweep: what is asked for, and C's record of two fields
 abbrev pub request_of : ℕ → ℕ → ℕ → Float → Float → Float → Float → Float → ℕ → Request

@@ -90,7 +90,7 @@ pub fn stretch<const WRITES: bool>(
 ) -> Climb
     requires { (from ≤ to)
         × (start.rungs + (to - from) < 2 ^ 32)
-        × (place < 2 ^ 32)
+        × (place < 2 ^ 34)
         × (WRITES ≡ true → place + (to - from) * 2 ≤ length out.old) }
     ensures { PartIf WRITES two_over_z base_order from to start place out.old result out.new }
 {

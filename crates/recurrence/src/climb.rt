@@ -4,6 +4,7 @@ ghost use Rattle.std.specs.Prelude.{◌≡◌, ◌+◌, ◌-◌, ◌<◌, ◌^�
 ghost use Rattle.recurrence.specs.Climb.{climb_from};
 
 use crate::onward::all;
+use crate::rung::Ladder;
 use crate::state::Climb;
 use complex::number::Complex;
 
@@ -11,5 +12,9 @@ pub fn climb(two_over_z: Complex, base_order: f64, from: u32, to: u32, start: Cl
     requires { start.rungs + (to - from) < 2 ^ 32 }
     ensures { result ≡ climb_from two_over_z base_order from (to - from) start }
 {
-    all::<false>(two_over_z, base_order, from, to, start, &mut [])
+    let ladder = Ladder {
+        two_over_z,
+        base_order,
+    };
+    all::<false>(ladder, from, to, start, &mut [])
 }

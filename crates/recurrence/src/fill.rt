@@ -5,6 +5,7 @@ ghost use Rattle.std.specs.Prelude.{◌≡◌, ◌+◌, ◌/◌, ◌%◌, ◌<�
 ghost use Rattle.recurrence.specs.Fill.{fill_from};
 
 use crate::onward::all;
+use crate::rung::Ladder;
 use crate::state::Climb;
 use complex::number::Complex;
 
@@ -16,5 +17,9 @@ pub fn fill(two_over_z: Complex, base_order: f64, from: u32, start: Climb, out: 
         × (out.new ≡ (fill_from two_over_z base_order from (length out.old / 2) start).cells) }
 {
     let to = from + (out.len() / 2) as u32;
-    all::<true>(two_over_z, base_order, from, to, start, out)
+    let ladder = Ladder {
+        two_over_z,
+        base_order,
+    };
+    all::<true>(ladder, from, to, start, out)
 }

@@ -5,15 +5,13 @@ ghost use Rattle.std.specs.Prelude.{◌≡◌, ◌+◌, ◌-◌, ◌*◌, ◌≤
 ghost use Rattle.recurrence.specs.shapes.Stretch.{FilledIf, WholeIf};
 
 use crate::off_scale::take_off;
-use crate::rung::rung;
+use crate::rung::Ladder;
 use crate::state::Climb;
 use crate::stretch::{put, stretch};
-use complex::number::Complex;
 
 // a stretch, with its entries off the scale
 fn entries<const WRITES: bool>(
-    two_over_z: Complex,
-    base_order: f64,
+    ladder: Ladder,
     from: u32,
     to: u32,
     start: Climb,
@@ -24,10 +22,10 @@ fn entries<const WRITES: bool>(
         × (start.rungs + (to - from) < 2 ^ 32)
         × (place < 2 ^ 34)
         × (WRITES ≡ true → place + (to - from) * 2 ≤ length out.old) }
-    ensures { FilledIf WRITES two_over_z base_order from to start place out.old result out.new }
+    ensures { FilledIf WRITES ladder.two_over_z ladder.base_order from to start place out.old result out.new }
 {
     let state = start.state;
-    let c = stretch::<WRITES>(two_over_z, base_order, from, to, start, out, place);
+    let c = stretch::<WRITES>(ladder, from, to, start, out, place);
     if WRITES {
         let at = place + 2 * ((c.rungs - start.rungs) as usize);
         take_off(state, &mut out[place..at]);
@@ -37,8 +35,7 @@ fn entries<const WRITES: bool>(
 
 // a stretch, and the rung after it
 fn onward<const WRITES: bool>(
-    two_over_z: Complex,
-    base_order: f64,
+    ladder: Ladder,
     from: u32,
     to: u32,
     start: Climb,
@@ -49,13 +46,13 @@ fn onward<const WRITES: bool>(
         × (start.rungs + (to - from) < 2 ^ 32)
         × (place < 2 ^ 34)
         × (WRITES ≡ true → place + (to - from) * 2 ≤ length out.old) }
-    ensures { FilledIf WRITES two_over_z base_order from to start place out.old result out.new
+    ensures { FilledIf WRITES ladder.two_over_z ladder.base_order from to start place out.old result out.new
         × (start.rungs < result.rungs) }
 {
-    let c = entries::<WRITES>(two_over_z, base_order, from, to, start, out, place);
+    let c = entries::<WRITES>(ladder, from, to, start, out, place);
     let climbed = c.rungs - start.rungs;
     if climbed < to - from {
-        let r = rung(two_over_z, base_order, from + climbed, c);
+        let r = ladder.rung(from + climbed, c);
         if WRITES {
             put(r.entry, out, place + 2 * (climbed as usize));
         }
@@ -66,8 +63,7 @@ fn onward<const WRITES: bool>(
 
 // The index goes on by the rungs of each part, not one by one.
 pub fn all<const WRITES: bool>(
-    two_over_z: Complex,
-    base_order: f64,
+    ladder: Ladder,
     from: u32,
     to: u32,
     start: Climb,
@@ -75,13 +71,13 @@ pub fn all<const WRITES: bool>(
 ) -> Climb
     requires { (start.rungs + (to - from) < 2 ^ 32)
         × (WRITES ≡ true → length out.old ≡ (to - from) * 2) }
-    ensures { WholeIf WRITES two_over_z base_order from (to - from) start result out.new }
+    ensures { WholeIf WRITES ladder.two_over_z ladder.base_order from (to - from) start result out.new }
 {
     let mut c = start;
     let mut i = from;
     while i < to {
         let place = 2 * ((i - from) as usize);
-        c = onward::<WRITES>(two_over_z, base_order, i, to, c, out, place);
+        c = onward::<WRITES>(ladder, i, to, c, out, place);
         i = from + (c.rungs - start.rungs);
     }
     c

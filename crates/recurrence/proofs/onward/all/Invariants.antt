@@ -10,7 +10,7 @@ invariant-loop-i g l =
     (l.i ≡ l.fn.from + (l.c.rungs - l.fn.start.rungs))
     × (l.fn.start.rungs ≤ l.c.rungs)
     × (l.c.rungs - l.fn.start.rungs ≤ l.fn.to - l.fn.from)
-    × FilledIf (WRITES-type (number g.row.WRITES)) l.fn.two_over_z l.fn.base_order l.fn.from l.fn.to l.fn.start 0 l.fn.out l.c l.out
+    × FilledIf (WRITES-type (number g.row.WRITES)) l.fn.ladder.two_over_z l.fn.ladder.base_order l.fn.from l.fn.to l.fn.start 0 l.fn.out l.c l.out
 
 abbrev pub decreases-loop-i : goal.decreases-loop-i
 decreases-loop-i g l = l.to - l.i

@@ -12,7 +12,7 @@ invariant-loop-i g l =
     × (l.i ≤ l.fn.to)
     × (l.at ≡ l.fn.place + (l.c.rungs - l.fn.start.rungs) * 2)
     × (l.c.state ≡ l.fn.start.state)
-    × PartIf (WRITES-type (number g.row.WRITES)) l.fn.two_over_z l.fn.base_order l.fn.from l.fn.to l.fn.start l.fn.place l.fn.out l.c l.out
+    × PartIf (WRITES-type (number g.row.WRITES)) l.fn.ladder.two_over_z l.fn.ladder.base_order l.fn.from l.fn.to l.fn.start l.fn.place l.fn.out l.c l.out
 
 abbrev pub decreases-loop-i : goal.decreases-loop-i
 decreases-loop-i g l = l.to - l.i

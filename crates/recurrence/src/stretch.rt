@@ -79,7 +79,7 @@ fn four_rungs<const WRITES: bool>(
 }
 
 // Rungs on which the state stays, four a turn: it stops before one that may move, and where less than four are left.
-// The index goes on by four and the place by eight; which turn is the last is known after it, so no chunks of the cells are walked.
+// The climb lends no cells: so turns are counted, and no chunks of the cells are walked.
 pub fn stretch<const WRITES: bool>(
     ladder: Ladder,
     from: u32,
@@ -99,19 +99,13 @@ pub fn stretch<const WRITES: bool>(
         most: start.state.limit(),
     };
     let mut c = start;
-    let mut i = from;
-    let mut at = place;
-    while i < to {
-        let p = ladder.factor_re(i);
-        if to - i < 4 {
-            return c;
-        }
-        match four_rungs::<WRITES>(g, p, i, c, out, at) {
+    for turn in 0..(to - from) / 4 {
+        let i = from + 4 * turn;
+        let at = place + 8 * (turn as usize);
+        match four_rungs::<WRITES>(g, ladder.factor_re(i), i, c, out, at) {
             ControlFlow::Continue(d) => c = d,
             ControlFlow::Break(d) => return d,
         }
-        i += 4;
-        at += 8;
     }
     c
 }

@@ -265,21 +265,21 @@ module _ (two_over_z : Complex) (base_order : Float) where
 -- ---- a turn of four rungs: the next value held and in its place, or neither
 module _ (g : Course) (start : Climb) (from place : ℕ) (before : List Float) where
   abbrev pub Turning : ℕ → Climb → ℕ → List Float → Type 0
-  Turning i c at out = Writing g.two_over_z g.base_order (off_scale start.state) from (from + 4) start place before i c at out
+  Turning i c at out = Writing g.ladder.two_over_z g.ladder.base_order (off_scale start.state) from (from + 4) start place before i c at out
 
   pub turn-start : place + 8 ≤ length before → Turning from start place before
-  turn-start h = writing_start g.two_over_z g.base_order (scale-spreads start.state) from (from + 4) start place before (omega arith)
+  turn-start h = writing_start g.ladder.two_over_z g.ladder.base_order (scale-spreads start.state) from (from + 4) start place before (omega arith)
 
   pub turn-rung : {i at : ℕ} {c : Climb} {out : List Float} (j n at' : ℕ) (out' : List Float) (w : Complex) → j ≡ i + 1 → n ≡ c.rungs + 1 → at' ≡ at + 2 → i < from + 4 → at + 1 < length before
       → c.state ≡ start.state → g.most ≡ limit_of start.state → Written g i c.older c.newer (option.Some w) at out out' → Turning i c at out
       → Turning j (record { older = c.newer; newer = w; state = c.state; rungs = n }) at' out'
   turn-rung {i} {at} {c} {out} j n at' out' w u l v h r q b p t =
       let most = b ∙ ap limit_of (sym q) in
-      let factor = factor_of g.two_over_z g.base_order i in
+      let factor = factor_of g.ladder.two_over_z g.ladder.base_order i in
       let is = (held-value g.most (next_of factor c.older c.newer) w p.held).0 in
-      writing-rung g.two_over_z g.base_order (scale-spreads start.state) j at' out'
+      writing-rung g.ladder.two_over_z g.ladder.base_order (scale-spreads start.state) j at' out'
       (record { climb = record { older = c.newer; newer = w; state = c.state; rungs = n }; entry = times_real w (reciprocal_of c.state); moved = false }) w u v h r
-      (held-rung g.two_over_z g.base_order i n c w l most p.held)
+      (held-rung g.ladder.two_over_z g.ladder.base_order i n c w l most p.held)
       (ap (λ (s : OverflowState). off_scale s (w.re ∷ w.im ∷ [])) (sym q) ∙ scale-pair c.state factor c.older c.newer w is)
       p.put
       t
@@ -317,9 +317,9 @@ module _ (g : Course) (start : Climb) (from place : ℕ) (before : List Float) w
   turn-length s = s.filled.cells.same
 
   -- its part, and its cells where they are asked for
-  pub turn-if : {writes : Bool} {i at : ℕ} {c : Climb} {out : List Float} (d : Climb) → d ≡ c → Standing g.two_over_z g.base_order from (from + 4) start i c → (writes ≡ true → Turning i c at out)
-      → PartIf writes g.two_over_z g.base_order from (from + 4) start place before d out
+  pub turn-if : {writes : Bool} {i at : ℕ} {c : Climb} {out : List Float} (d : Climb) → d ≡ c → Standing g.ladder.two_over_z g.ladder.base_order from (from + 4) start i c → (writes ≡ true → Turning i c at out)
+      → PartIf writes g.ladder.two_over_z g.ladder.base_order from (from + 4) start place before d out
   turn-if {writes} {i} {at} {c} {out} d e p h = record {
-    part = subst (λ (k : Climb). Partway g.two_over_z g.base_order from (from + 4) start k) (sym e) p.part;
-    held = λ t. subst (λ (k : Climb). PartHeld g.two_over_z g.base_order from (from + 4) start place before k out) (sym e) (h t).filled;
+    part = subst (λ (k : Climb). Partway g.ladder.two_over_z g.ladder.base_order from (from + 4) start k) (sym e) p.part;
+    held = λ t. subst (λ (k : Climb). PartHeld g.ladder.two_over_z g.ladder.base_order from (from + 4) start place before k out) (sym e) (h t).filled;
   }

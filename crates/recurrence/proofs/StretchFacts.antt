@@ -149,27 +149,27 @@ module _ (two_over_z : Complex) (base_order : Float) where
 -- ---- a turn of four rungs: one rung of it, two, three, four
 module _ (g : Course) (start : Climb) (from : ℕ) where
   abbrev pub Turning : ℕ → Climb → Type 0
-  Turning i c = Standing g.two_over_z g.base_order from (from + 4) start i c
+  Turning i c = Standing g.ladder.two_over_z g.ladder.base_order from (from + 4) start i c
 
   abbrev pub Next : ℕ → Complex → Complex → Complex → Type 0
-  Next i older newer w = Some w ≡ held_of g.most (next_of (factor_of g.two_over_z g.base_order i) older newer)
+  Next i older newer w = Some w ≡ held_of g.most (next_of (factor_of g.ladder.two_over_z g.ladder.base_order i) older newer)
 
   pub turn-start : Turning from start
-  turn-start = standing-start g.two_over_z g.base_order from (from + 4) start
+  turn-start = standing-start g.ladder.two_over_z g.ladder.base_order from (from + 4) start
 
   module _ (b : g.most ≡ limit_of start.state) where
     pub turn_one : {w₁ : Complex} → Next from start.older start.newer w₁ → Turning (from + 1) (record { older = start.newer; newer = w₁; state = start.state; rungs = start.rungs + 1 })
-    turn_one {w₁} e₁ = standing-held g.two_over_z g.base_order (from + 1) (start.rungs + 1) w₁ refl refl (omega arith) b e₁ turn-start
+    turn_one {w₁} e₁ = standing-held g.ladder.two_over_z g.ladder.base_order (from + 1) (start.rungs + 1) w₁ refl refl (omega arith) b e₁ turn-start
 
     pub turn_two : {w₁ w₂ : Complex} → Next from start.older start.newer w₁ → Next (from + 1) start.newer w₁ w₂
         → Turning (from + 2) (record { older = w₁; newer = w₂; state = start.state; rungs = start.rungs + 2 })
-    turn_two {w₁} {w₂} e₁ e₂ = standing-held g.two_over_z g.base_order (from + 2) (start.rungs + 2) w₂ (omega arith) (omega arith) (omega arith) b e₂ (turn_one e₁)
+    turn_two {w₁} {w₂} e₁ e₂ = standing-held g.ladder.two_over_z g.ladder.base_order (from + 2) (start.rungs + 2) w₂ (omega arith) (omega arith) (omega arith) b e₂ (turn_one e₁)
 
     pub turn_three : {w₁ w₂ w₃ : Complex} → Next from start.older start.newer w₁ → Next (from + 1) start.newer w₁ w₂ → Next (from + 2) w₁ w₂ w₃
         → Turning (from + 3) (record { older = w₂; newer = w₃; state = start.state; rungs = start.rungs + 3 })
-    turn_three {w₁} {w₂} {w₃} e₁ e₂ e₃ = standing-held g.two_over_z g.base_order (from + 3) (start.rungs + 3) w₃ (omega arith) (omega arith) (omega arith) b e₃ (turn_two e₁ e₂)
+    turn_three {w₁} {w₂} {w₃} e₁ e₂ e₃ = standing-held g.ladder.two_over_z g.ladder.base_order (from + 3) (start.rungs + 3) w₃ (omega arith) (omega arith) (omega arith) b e₃ (turn_two e₁ e₂)
 
     pub turn-four : {w₁ w₂ w₃ w₄ : Complex} → Next from start.older start.newer w₁ → Next (from + 1) start.newer w₁ w₂ → Next (from + 2) w₁ w₂ w₃ → Next (from + 3) w₂ w₃ w₄
         → Turning (from + 4) (record { older = w₃; newer = w₄; state = start.state; rungs = start.rungs + 4 })
     turn-four {w₁} {w₂} {w₃} {w₄} e₁ e₂ e₃ e₄ =
-        standing-held g.two_over_z g.base_order (from + 4) (start.rungs + 4) w₄ (omega arith) (omega arith) (omega arith) b e₄ (turn_three e₁ e₂ e₃)
+        standing-held g.ladder.two_over_z g.ladder.base_order (from + 4) (start.rungs + 4) w₄ (omega arith) (omega arith) (omega arith) b e₄ (turn_three e₁ e₂ e₃)

@@ -7,31 +7,24 @@ ghost use Rattle.recurrence.specs.Rung.{factor_of, next_of};
 ghost use Rattle.recurrence.specs.shapes.Course.{Suits};
 ghost use Rattle.recurrence.specs.shapes.Held.{held_of};
 
+use crate::rung::Ladder;
 use complex::number::Complex;
 use machine::magnitude::outside;
 
-// 2/z, the base order, and the limit of the state
+// the ladder that is climbed, and the limit of the state
 #[derive(Clone, Copy)]
 pub struct Course {
-    pub two_over_z: Complex,
-    pub base_order: f64,
+    pub ladder: Ladder,
     pub most: f64,
 }
 
 impl Course {
-    // the real part of the factor at the index i
-    pub fn factor_re(self, i: u32) -> f64
-        ensures { result ≡ (factor_of self.two_over_z self.base_order i).re }
-    {
-        self.two_over_z.re * (self.base_order + (i as f64))
-    }
-
     // the value at the index i, where the state stays at it; p is the factor's real part
     pub fn next_held(self, p: f64, i: u32, older: Complex, newer: Complex) -> Option<Complex>
         requires { Suits self p i }
-        ensures { result ≡ held_of self.most (next_of (factor_of self.two_over_z self.base_order i) older newer) }
+        ensures { result ≡ held_of self.most (next_of (factor_of self.ladder.two_over_z self.ladder.base_order i) older newer) }
     {
-        let turn = self.two_over_z.im * (self.base_order + (i as f64));
+        let turn = self.ladder.two_over_z.im * (self.ladder.base_order + (i as f64));
         let re = older.re + (p * newer.re - turn * newer.im);
         if outside(self.most, re) {
             return None;

@@ -7,6 +7,7 @@ pub mod course;
 pub mod fill;
 pub mod first;
 pub mod off_scale;
+pub mod onward;
 pub mod rung;
 pub mod search;
 pub mod state;

@@ -1,4 +1,4 @@
-// One rung of a climb: the next order's value from two neighbours, its factor formed afresh, and the move to the next state of scale
+// A ladder and one rung of its climb: the next order's value from two neighbours, its factor formed afresh, and the move to the next state of scale
 // where the entry off the scale passes the boundary. From src/amos/recurrence.rs, run_recurrence_core, and limits.rs, scale_recurrence.
 // Promised: rung_of of specs/Rung.antt. The boundary is tested by four comparisons with no magnitudes.
 ghost use Rattle.std.specs.Prelude.{◌≡◌, ◌+◌, ◌<◌, ◌^◌, T};
@@ -44,45 +44,67 @@ fn moved(older: Complex, entry: Complex, state: OverflowState, rungs: u32) -> Cl
     }
 }
 
-// the next order's value, on the scale of its neighbours
-pub fn next_value(
-    two_over_z: Complex,
-    base_order: f64,
-    i: u32,
-    older: Complex,
-    newer: Complex,
-) -> Complex
-    ensures { result ≡ next_of (factor_of two_over_z base_order i) older newer }
-{
-    let factor = two_over_z.times_real(base_order + (i as f64));
-    older.plus(factor.product(newer))
+// What the rungs of a climb share: 2/z, and the order that their indices count from.
+#[derive(Clone, Copy)]
+pub struct Ladder {
+    pub two_over_z: Complex,
+    pub base_order: f64,
 }
 
+impl Ladder {
+    // the real part of the factor at the index i
+    pub fn factor_re(self, i: u32) -> f64
+        ensures { result ≡ (factor_of self.two_over_z self.base_order i).re }
+    {
+        self.two_over_z.re * (self.base_order + (i as f64))
+    }
+
+    // the next order's value, on the scale of its neighbours
+    pub fn next_value(self, i: u32, older: Complex, newer: Complex) -> Complex
+        ensures { result ≡ next_of (factor_of self.two_over_z self.base_order i) older newer }
+    {
+        let factor = self.two_over_z.times_real(self.base_order + (i as f64));
+        older.plus(factor.product(newer))
+    }
+
+    pub fn rung(self, i: u32, c: Climb) -> Rung
+        requires { c.rungs + 1 < 2 ^ 32 }
+        ensures { result ≡ rung_of self.two_over_z self.base_order i c }
+    {
+        let older = c.older;
+        let newer = c.newer;
+        let state = c.state;
+        let rungs = c.rungs + 1;
+        let next = self.next_value(i, older, newer);
+        let entry = next.times_real(state.reciprocal());
+        if leaves(state, entry) {
+            return Rung {
+                climb: moved(newer, entry, state, rungs),
+                entry: entry,
+                moved: true,
+            };
+        }
+        Rung {
+            climb: Climb {
+                older: newer,
+                newer: next,
+                state: state,
+                rungs: rungs,
+            },
+            entry: entry,
+            moved: false,
+        }
+    }
+}
+
+// one rung, of the two parts of a ladder
 pub fn rung(two_over_z: Complex, base_order: f64, i: u32, c: Climb) -> Rung
     requires { c.rungs + 1 < 2 ^ 32 }
     ensures { result ≡ rung_of two_over_z base_order i c }
 {
-    let older = c.older;
-    let newer = c.newer;
-    let state = c.state;
-    let rungs = c.rungs + 1;
-    let next = next_value(two_over_z, base_order, i, older, newer);
-    let entry = next.times_real(state.reciprocal());
-    if leaves(state, entry) {
-        return Rung {
-            climb: moved(newer, entry, state, rungs),
-            entry: entry,
-            moved: true,
-        };
+    Ladder {
+        two_over_z,
+        base_order,
     }
-    Rung {
-        climb: Climb {
-            older: newer,
-            newer: next,
-            state: state,
-            rungs: rungs,
-        },
-        entry: entry,
-        moved: false,
-    }
+    .rung(i, c)
 }

@@ -5,7 +5,7 @@ ghost use Rattle.std.specs.Prelude.{◌≡◌, ◌+◌, ◌<◌, ◌^◌};
 ghost use Rattle.recurrence.specs.Rule.{FirstOrders, OutOfUnderflow};
 ghost use Rattle.recurrence.specs.Search.{IsRuleOf, is_found, search_at, is_lowered, lowered_of, after_trial, search_step, search_from};
 
-use crate::rung::next_value;
+use crate::rung::Ladder;
 use crate::trial::{later_trial, ln_magnitude, reaches_limit};
 use complex::number::Complex;
 use exponential::exp::exp;
@@ -90,17 +90,16 @@ fn after_trial<F: Fn(Complex, f64) -> bool + Copy>(is_lowered: F, l: f64, s: Sea
 
 fn search_step<F: Fn(Complex, f64) -> bool + Copy>(
     is_lowered: F,
-    base_order: f64,
-    two_over_z: Complex,
+    ladder: Ladder,
     i: u32,
     s: Search,
 ) -> Search
     requires callable { F.IsAlwaysCallable is_lowered }
     requires counted { s.rungs + 1 < 2 ^ 32 }
-    ensures { IsRuleOf (F.post is_lowered) (λ rule. result ≡ search_step rule base_order two_over_z i s)
+    ensures { IsRuleOf (F.post is_lowered) (λ rule. result ≡ search_step rule ladder.base_order ladder.two_over_z i s)
         × (result.rungs ≡ s.rungs + 1) }
 {
-    let next = next_value(two_over_z, base_order, i, s.older, s.newer);
+    let next = ladder.next_value(i, s.older, s.newer);
     let l = ln_magnitude(next);
     let latest = later_trial(s.argument, next, l);
     after_trial(
@@ -129,12 +128,16 @@ pub fn search_from<F: Fn(Complex, f64) -> bool + Copy>(
     requires counted { start.rungs + count < 2 ^ 31 }
     ensures { IsRuleOf (F.post is_lowered) (λ rule. result ≡ search_from rule base_order two_over_z count start) }
 {
+    let ladder = Ladder {
+        two_over_z,
+        base_order,
+    };
     let mut s = start;
     for i in 1..=count {
         if is_found(s) {
             return s;
         }
-        s = search_step(is_lowered, base_order, two_over_z, i, s);
+        s = search_step(is_lowered, ladder, i, s);
     }
     s
 }

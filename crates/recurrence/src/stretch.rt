@@ -7,6 +7,7 @@ ghost use Rattle.recurrence.specs.shapes.Course.{Suits, Stays, after};
 ghost use Rattle.recurrence.specs.shapes.Stretch.{PartIf, WrittenIf};
 
 use crate::course::Course;
+use crate::rung::Ladder;
 use crate::state::Climb;
 use complex::number::Complex;
 use std::ops::ControlFlow;
@@ -54,20 +55,20 @@ fn four_rungs<const WRITES: bool>(
         × (start.rungs + 4 < 2 ^ 32)
         × (at + 8 < 2 ^ 64)
         × (WRITES ≡ true → at + 8 ≤ length out.old) }
-    ensures { PartIf WRITES g.two_over_z g.base_order i (i + 4) start at out.old (after result) out.new
+    ensures { PartIf WRITES g.ladder.two_over_z g.ladder.base_order i (i + 4) start at out.old (after result) out.new
         × Stays start result }
 {
     let older = start.older;
     let newer = start.newer;
-    let q = g.factor_re(i + 1);
+    let q = g.ladder.factor_re(i + 1);
     let Some(first) = written::<WRITES>(g, p, i, older, newer, out, at) else {
         return ControlFlow::Break(start);
     };
-    let r = g.factor_re(i + 2);
+    let r = g.ladder.factor_re(i + 2);
     let Some(second) = written::<WRITES>(g, q, i + 1, newer, first, out, at + 2) else {
         return ControlFlow::Break(start.at(newer, first, 1));
     };
-    let s = g.factor_re(i + 3);
+    let s = g.ladder.factor_re(i + 3);
     let Some(third) = written::<WRITES>(g, r, i + 2, first, second, out, at + 4) else {
         return ControlFlow::Break(start.at(first, second, 2));
     };
@@ -78,10 +79,9 @@ fn four_rungs<const WRITES: bool>(
 }
 
 // Rungs on which the state stays, four a turn: it stops before one that may move, and where less than four are left.
-// The index goes on by four and the place by eight; which turn is the last is known after it, so no chunks of the cells are walked.
+// The climb lends no cells: so turns are counted, and no chunks of the cells are walked.
 pub fn stretch<const WRITES: bool>(
-    two_over_z: Complex,
-    base_order: f64,
+    ladder: Ladder,
     from: u32,
     to: u32,
     start: Climb,
@@ -90,29 +90,22 @@ pub fn stretch<const WRITES: bool>(
 ) -> Climb
     requires { (from ≤ to)
         × (start.rungs + (to - from) < 2 ^ 32)
-        × (place < 2 ^ 32)
+        × (place < 2 ^ 34)
         × (WRITES ≡ true → place + (to - from) * 2 ≤ length out.old) }
-    ensures { PartIf WRITES two_over_z base_order from to start place out.old result out.new }
+    ensures { PartIf WRITES ladder.two_over_z ladder.base_order from to start place out.old result out.new }
 {
     let g = Course {
-        two_over_z,
-        base_order,
+        ladder,
         most: start.state.limit(),
     };
     let mut c = start;
-    let mut i = from;
-    let mut at = place;
-    while i < to {
-        let p = g.factor_re(i);
-        if to - i < 4 {
-            return c;
-        }
-        match four_rungs::<WRITES>(g, p, i, c, out, at) {
+    for turn in 0..(to - from) / 4 {
+        let i = from + 4 * turn;
+        let at = place + 8 * (turn as usize);
+        match four_rungs::<WRITES>(g, ladder.factor_re(i), i, c, out, at) {
             ControlFlow::Continue(d) => c = d,
             ControlFlow::Break(d) => return d,
         }
-        i += 4;
-        at += 8;
     }
     c
 }

@@ -8,7 +8,6 @@ ghost use Rattle.temme.specs.Gammas.{difference_quotient, gammas_of};
 use crate::difference::difference;
 use circular::sin_pi::sin_pi;
 use exponential::exp::exp;
-use gamma_ln::gamma_ln::gamma_ln;
 use machine::magnitude::magnitude;
 
 // πν / sin πν, 1/Γ(1+ν), 1/Γ(1-ν), (1/Γ(1-ν) - 1/Γ(1+ν)) / 2ν, and (1/Γ(1-ν) + 1/Γ(1+ν)) / 2.
@@ -42,8 +41,7 @@ fn other(fraction: f64, fraction_square: f64) -> Gammas
     ensures { result ≡ gammas_of fraction fraction_square }
 {
     let one_over_sinc = fraction * 3.141592653589793 / sin_pi(fraction);
-    let ln = gamma_ln(1.0 + fraction);
-    let plus = exp(-ln.value);
+    let plus = exp(-gamma_ln::gamma_ln::value(1.0 + fraction));
     let minus = 1.0 / (plus * one_over_sinc);
     Gammas {
         one_over_sinc,

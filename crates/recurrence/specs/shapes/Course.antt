@@ -11,7 +11,7 @@ use Rattle.recurrence.specs.declared.course.Course.{Course}
 -- p is the real part of the factor at the index i
 pub record Suits (g : Course) (p : Float) (i : ℕ) : Type 0 where
   pub above : T (lt nothing g.most)
-  pub ahead : p ≡ (factor_of g.two_over_z g.base_order i).re
+  pub ahead : p ≡ (factor_of g.ladder.two_over_z g.ladder.base_order i).re
 
 -- the climb after a turn
 abbrev pub after : ControlFlow Climb Climb → Climb

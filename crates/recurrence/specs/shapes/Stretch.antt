@@ -57,7 +57,7 @@ put_if option.None at out = out
 
 -- the next value after two, where it is held, and in its place
 pub record Written (g : Course) (i : ℕ) (older newer : Complex) (a : Option Complex) (at : ℕ) (before out : List Float) : Type 0 where
-  pub held : a ≡ held_of g.most (next_of (factor_of g.two_over_z g.base_order i) older newer)
+  pub held : a ≡ held_of g.most (next_of (factor_of g.ladder.two_over_z g.ladder.base_order i) older newer)
   pub put : out ≡ put_if a at before
 
 -- where the values are asked for, in their cells too
@@ -67,5 +67,16 @@ pub record PartIf (writes : Bool) (two_over_z : Complex) (base_order : Float) (f
   pub held : writes ≡ true → PartHeld two_over_z base_order from to start place before c out
 
 pub record WrittenIf (writes : Bool) (g : Course) (i : ℕ) (older newer : Complex) (a : Option Complex) (at : ℕ) (before out : List Float) : Type 0 where
-  pub next : a ≡ held_of g.most (next_of (factor_of g.two_over_z g.base_order i) older newer)
+  pub next : a ≡ held_of g.most (next_of (factor_of g.ladder.two_over_z g.ladder.base_order i) older newer)
   pub put : writes ≡ true → Written g i older newer a at before out
+
+-- its entries in their cells
+pub record FilledIf (writes : Bool) (two_over_z : Complex) (base_order : Float) (from to : ℕ) (start : Climb) (place : ℕ) (before : List Float) (c : Climb)
+    (out : List Float) : Type 0 where
+  pub part : Partway two_over_z base_order from to start c
+  pub filled : writes ≡ true → PartFilled two_over_z base_order from to start place before c out
+
+-- and the whole: `count` rungs, and their entries in all the cells
+pub record WholeIf (writes : Bool) (two_over_z : Complex) (base_order : Float) (from count : ℕ) (start c : Climb) (out : List Float) : Type 0 where
+  pub climb : c ≡ climb_from two_over_z base_order from count start
+  pub cells : writes ≡ true → out ≡ (fill_from two_over_z base_order from count start).cells

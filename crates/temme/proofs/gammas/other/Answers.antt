@@ -6,4 +6,4 @@ pub returns : goal.returns
 unfolding gammas_of one_over_sinc
 returns c =
     let d = c in
-    simp (c.quotient.ensures, c.exp-plus.ensures, d.gamma_ln-ln.ensures, d.sin_pi.ensures, d.requires)
+    simp (c.quotient.ensures, c.exp-plus.ensures, d.value.ensures, d.sin_pi.ensures, d.requires)

@@ -13,19 +13,19 @@ pub returns-then-outside : goal.returns-then-outside
 unfolding factor_of times_real
 returns-then-outside c =
     let a = c.args in
-    not-held-re a.self.most (record { re = a.p; im = a.self.two_over_z.im ⊗ (a.self.base_order ⊕ of_int binary64 (pos a.i)) }) a.older a.newer (sym c.outside.ensures ∙ c.if-outside.true)
-    ∙ ap (λ (x : Float). held_of a.self.most (next_of (record { re = x; im = a.self.two_over_z.im ⊗ (a.self.base_order ⊕ of_int binary64 (pos a.i)) }) a.older a.newer)) c.requires.ahead
+    not-held-re a.self.most (record { re = a.p; im = a.self.ladder.two_over_z.im ⊗ (a.self.ladder.base_order ⊕ of_int binary64 (pos a.i)) }) a.older a.newer (sym c.outside.ensures ∙ c.if-outside.true)
+    ∙ ap (λ (x : Float). held_of a.self.most (next_of (record { re = x; im = a.self.ladder.two_over_z.im ⊗ (a.self.ladder.base_order ⊕ of_int binary64 (pos a.i)) }) a.older a.newer)) c.requires.ahead
 
 pub returns-then-outside-2 : goal.returns-then-outside-2
 unfolding factor_of times_real
 returns-then-outside-2 c =
     let a = c.args in
-    not-held-im a.self.most (record { re = a.p; im = a.self.two_over_z.im ⊗ (a.self.base_order ⊕ of_int binary64 (pos a.i)) }) a.older a.newer (sym c.outside.ensures ∙ c.if-outside.false) (sym c.outside-2.ensures ∙ c.if-outside-2.true)
-    ∙ ap (λ (x : Float). held_of a.self.most (next_of (record { re = x; im = a.self.two_over_z.im ⊗ (a.self.base_order ⊕ of_int binary64 (pos a.i)) }) a.older a.newer)) c.requires.ahead
+    not-held-im a.self.most (record { re = a.p; im = a.self.ladder.two_over_z.im ⊗ (a.self.ladder.base_order ⊕ of_int binary64 (pos a.i)) }) a.older a.newer (sym c.outside.ensures ∙ c.if-outside.false) (sym c.outside-2.ensures ∙ c.if-outside-2.true)
+    ∙ ap (λ (x : Float). held_of a.self.most (next_of (record { re = x; im = a.self.ladder.two_over_z.im ⊗ (a.self.ladder.base_order ⊕ of_int binary64 (pos a.i)) }) a.older a.newer)) c.requires.ahead
 
 pub returns : goal.returns
 unfolding factor_of times_real
 returns c =
     let a = c.args in
-    held-parts a.self.most (record { re = a.p; im = a.self.two_over_z.im ⊗ (a.self.base_order ⊕ of_int binary64 (pos a.i)) }) a.older a.newer (sym c.outside.ensures ∙ c.if-outside.false) (sym c.outside-2.ensures ∙ c.if-outside-2.false)
-    ∙ ap (λ (x : Float). held_of a.self.most (next_of (record { re = x; im = a.self.two_over_z.im ⊗ (a.self.base_order ⊕ of_int binary64 (pos a.i)) }) a.older a.newer)) c.requires.ahead
+    held-parts a.self.most (record { re = a.p; im = a.self.ladder.two_over_z.im ⊗ (a.self.ladder.base_order ⊕ of_int binary64 (pos a.i)) }) a.older a.newer (sym c.outside.ensures ∙ c.if-outside.false) (sym c.outside-2.ensures ∙ c.if-outside-2.false)
+    ∙ ap (λ (x : Float). held_of a.self.most (next_of (record { re = x; im = a.self.ladder.two_over_z.im ⊗ (a.self.ladder.base_order ⊕ of_int binary64 (pos a.i)) }) a.older a.newer)) c.requires.ahead

@@ -1,6 +1,6 @@
--- `recurrence::rung::next_value` meets its contract: the calls in their order. Assumes nothing.
+-- `recurrence::rung::Ladder::next_value` meets its contract: the calls in their order. Assumes nothing.
 use Rattle.recurrence.specs.Rung.{factor_of, next_of}
-use Rattle.recurrence.proofs.rung.next_value.Goals as goal
+use Rattle.recurrence.proofs.rung.Ladder.next_value.Goals as goal
 
 pub returns : goal.returns
 unfolding factor_of next_of

@@ -1,8 +1,8 @@
--- `recurrence::course::Course::factor_re` meets its contract: the definition's own product. Assumes nothing.
+-- `recurrence::rung::Ladder::factor_re` meets its contract: the definition's own product. Assumes nothing.
 use mathlib.Core.Path.{refl}
 use Rattle.complex.specs.Arithmetic.{times_real}
 use Rattle.recurrence.specs.Rung.{factor_of}
-use Rattle.recurrence.proofs.course.Course.factor_re.Goals as goal
+use Rattle.recurrence.proofs.rung.Ladder.factor_re.Goals as goal
 
 pub returns : goal.returns
 unfolding factor_of times_real

@@ -143,9 +143,6 @@ module _ (g : Setting) (n : ℕ) (p : Two Descent) (b : Begun g n p) (d : List F
   unfolding start_descent
   start-goes = refl
 
-  pub paired-settled : Settled n (n - 1 - 1) p.lower
-  paired-settled = subst (λ (k : ℕ). Settled n k p.lower) (two-less n) b.settled
-
   pub paired-walk :
       length d ≡ n * 2 → 1 < n →
       (first : List Float) → first ≡ set (set d ((n - 1) * 2 + 1) p.higher.above.im) ((n - 1) * 2) p.higher.above.re →

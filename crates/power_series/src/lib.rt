@@ -3,6 +3,7 @@
 #![tactic(auto)]
 
 pub mod alone;
+pub mod entries;
 pub mod pair;
 pub mod series;
 pub mod tiny;

@@ -1,12 +1,14 @@
 // The visit where its two highest orders are both seeded far from underflow, as nearly all are: their sums side by side, and the recurrence
 // below them, which has nothing left to test. Any other visit goes order by order. Promised: visit_of of specs/Visit.antt, record and cells;
 // the shapes on the way are those of specs/shapes/Pair.antt.
-ghost use Rattle.std.specs.Prelude.{◌≡◌, false, ◌+◌, ◌-◌, ◌*◌, ◌/◌, ◌%◌, ◌^◌, ◌≤◌, ◌<◌, length, drop};
+ghost use Rattle.std.specs.Prelude.{◌≡◌, false, ◌+◌, ◌*◌, ◌%◌, ◌^◌, ◌<◌, drop};
 ghost use Rattle.series_step.specs.Recurred.{recurred_of};
+ghost use Rattle.power_series.specs.Entries.{orders, Kept};
 ghost use Rattle.power_series.specs.Visit.{walk_of, visit_of};
 ghost use Rattle.power_series.specs.shapes.Pair.{entered_of, pair_of, Settled, Begun, walk_from};
 
-use crate::visit::{Standing, Visit, concluded, put, stepwise};
+use crate::entries::Entries;
+use crate::visit::{Standing, Visit, concluded, stepwise};
 use complex::number::Complex;
 use machine::constants::Machine;
 use series_step::descent::{Descent, Tally, start};
@@ -56,67 +58,64 @@ fn rung(g: Setting, k: u32, s: Descent) -> Descent
 }
 
 // Two orders at a time, so that a value stays in the registers in which it was worked out.
-fn two_by_two(g: Setting, most: usize, settled: Descent, out: &mut [f64]) -> Standing
-    requires { (length out.old % 2 ≡ 0)
-        × (length out.old ≤ 1024)
-        × (most % 2 ≡ 0)
-        × Settled (length out.old / 2) most settled }
-    ensures { (result ≡ (walk_from g (length out.old / 2) most settled (drop (most * 2) out.old)).standing)
-        × (drop (result.left * 2) out.new ≡ (walk_from g (length out.old / 2) most settled (drop (most * 2) out.old)).cells) }
+fn two_by_two(g: Setting, most: usize, settled: Descent, out: &mut Entries) -> Standing
+    requires { (most % 2 ≡ 0) × Settled (orders out.old) most settled }
+    ensures kept { Kept out.old out.new }
+    ensures visit { (result ≡ (walk_from g (orders out.old) most settled (drop (most * 2) out.old.cells.now)).standing)
+        × (drop (result.left * 2) out.new.cells.now ≡ (walk_from g (orders out.old) most settled (drop (most * 2) out.old.cells.now)).cells) }
 {
     let mut state = settled;
     for pair in (0..most / 2).rev() {
         let k = pair * 2;
         let s = rung(g, (k + 1) as u32, state);
-        put(out, k + 1, s.above);
+        out.put(k + 1, s.above);
         state = rung(g, k as u32, s);
-        put(out, k, state.above);
+        out.put(k, state.above);
     }
     Standing { left: 0, state }
 }
 
 // An odd order goes first, by itself.
-fn evened(g: Setting, left: usize, s: Descent, out: &mut [f64]) -> Standing
-    requires { (length out.old % 2 ≡ 0) × (length out.old ≤ 1024) × Settled (length out.old / 2) left s }
-    ensures { (result.left % 2 ≡ 0)
-        × Settled (length out.old / 2) result.left result.state
-        × (walk_from g (length out.old / 2) left s (drop (left * 2) out.old)
-        ≡ walk_from g (length out.old / 2) result.left result.state (drop (result.left * 2) out.new)) }
+fn evened(g: Setting, left: usize, s: Descent, out: &mut Entries) -> Standing
+    requires { Settled (orders out.old) left s }
+    ensures kept { Kept out.old out.new }
+    ensures visit { (result.left % 2 ≡ 0)
+        × Settled (orders out.old) result.left result.state
+        × (walk_from g (orders out.old) left s (drop (left * 2) out.old.cells.now)
+        ≡ walk_from g (orders out.old) result.left result.state (drop (result.left * 2) out.new.cells.now)) }
 {
     if left % 2 == 0 {
         return Standing { left, state: s };
     }
     let k = left - 1;
     let state = rung(g, k as u32, s);
-    put(out, k, state.above);
+    out.put(k, state.above);
     Standing { left: k, state }
 }
 
-fn paired(g: Setting, p: Two<Descent>, out: &mut [f64]) -> Standing
-    requires { (length out.old % 2 ≡ 0)
-        × (length out.old ≤ 1024)
-        × (1 < length out.old / 2)
-        × Begun g (length out.old / 2) p }
-    ensures { (result ≡ (walk_of g (length out.old / 2)).standing)
-        × (drop (result.left * 2) out.new ≡ (walk_of g (length out.old / 2)).cells) }
+fn paired(g: Setting, p: Two<Descent>, out: &mut Entries) -> Standing
+    requires { (1 < orders out.old) × Begun g (orders out.old) p }
+    ensures kept { Kept out.old out.new }
+    ensures visit { (result ≡ (walk_of g (orders out.old)).standing)
+        × (drop (result.left * 2) out.new.cells.now ≡ (walk_of g (orders out.old)).cells) }
 {
     let higher = p.higher;
     let lower = p.lower;
-    let mut left = out.len() / 2 - 1;
-    put(out, left, higher.above);
+    let mut left = out.len() - 1;
+    out.put(left, higher.above);
     left -= 1;
-    put(out, left, lower.above);
+    out.put(left, lower.above);
     let r = evened(g, left, lower, out);
     two_by_two(g, r.left, r.state, out)
 }
 
 // The record of the other way is taken field by field, with `..`: as a whole it would draw the record of this one through memory.
-pub fn downward(g: Setting, out: &mut [f64]) -> Visit
-    requires { (length out.old % 2 ≡ 0) × (length out.old ≤ 1024) }
-    ensures { (result ≡ (visit_of g (length out.old / 2)).visit)
-        × (out.new ≡ (visit_of g (length out.old / 2)).cells) }
+pub fn downward(g: Setting, out: &mut Entries) -> Visit
+    ensures kept { Kept out.old out.new }
+    ensures visit { (result ≡ (visit_of g (orders out.old)).visit)
+        × (out.new.cells.now ≡ (visit_of g (orders out.old)).cells) }
 {
-    let n = (out.len() / 2) as u32;
+    let n = out.len() as u32;
     if n < 2 {
         return Visit { ..stepwise(g, out) };
     }

@@ -7,6 +7,7 @@ ghost use Rattle.machine.specs.Small.{nothing};
 ghost use Rattle.power_series.specs.Series.{power_series_of};
 
 use crate::alone::alone;
+use crate::entries::Entries;
 use crate::pair::downward;
 use crate::tiny::tiny;
 use crate::visit::Visit;
@@ -15,13 +16,13 @@ use machine::constants::Machine;
 use series_step::setting::prepare;
 
 // order 0 alone, unscaled
-fn is_alone(scaled: bool, order: f64, cells: usize) -> bool
-    ensures { result ≡ true → (scaled ≡ false) × (eq order nothing ≡ true) × (cells ≡ 2) }
+fn is_alone(scaled: bool, order: f64, n: usize) -> bool
+    ensures { result ≡ true → (scaled ≡ false) × (eq order nothing ≡ true) × (n ≡ 1) }
 {
     if scaled {
         return false;
     }
-    if cells == 2 {
+    if n == 1 {
         return order == 0.0;
     }
     false
@@ -39,11 +40,12 @@ pub fn power_series(
     ensures { (result ≡ (power_series_of scaled turned order z modulus (length out.old / 2)).visit)
         × (out.new ≡ (power_series_of scaled turned order z modulus (length out.old / 2)).cells) }
 {
+    let mut entries = Entries::of(out);
     if modulus < Machine::UNDERFLOW_LIMIT {
-        return tiny(order, modulus, out);
+        return tiny(order, modulus, &mut entries);
     }
-    if is_alone(scaled, order, out.len()) {
-        return alone(turned, order, z, modulus, out);
+    if is_alone(scaled, order, entries.len()) {
+        return alone(turned, order, z, modulus, &mut entries);
     }
-    downward(prepare(scaled, turned, order, z, modulus), out)
+    downward(prepare(scaled, turned, order, z, modulus), &mut entries)
 }

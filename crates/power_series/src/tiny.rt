@@ -1,8 +1,10 @@
 // Arguments below the underflow limit: the series is its leading term, which is 1 at order 0 and underflows at any other.
 // From src/amos/power_series.rs, i_power_series (ZSERI, from 150 to 180). Promised: tiny_of of specs/Tiny.antt, record and cells.
-ghost use Rattle.std.specs.Prelude.{◌≡◌, ◌/◌, ◌%◌, ◌≤◌, ◌<◌, length};
+ghost use Rattle.std.specs.Prelude.{◌≡◌, ◌<◌};
+ghost use Rattle.power_series.specs.Entries.{orders, Kept};
 ghost use Rattle.power_series.specs.Tiny.{lowest_of, zeros_of, tiny_of};
 
+use crate::entries::Entries;
 use crate::visit::Visit;
 use cells::fill::fill;
 
@@ -29,14 +31,15 @@ fn zeros(order: f64, modulus: f64, n: u32) -> u32
     n
 }
 
-pub fn tiny(order: f64, modulus: f64, out: &mut [f64]) -> Visit
-    requires { (0 < length out.old) × (length out.old % 2 ≡ 0) × (length out.old ≤ 1024) }
-    ensures { (result ≡ (tiny_of order modulus (length out.old / 2)).visit)
-        × (out.new ≡ (tiny_of order modulus (length out.old / 2)).cells) }
+pub fn tiny(order: f64, modulus: f64, out: &mut Entries) -> Visit
+    requires { 0 < orders out.old }
+    ensures kept { Kept out.old out.new }
+    ensures visit { (result ≡ (tiny_of order modulus (orders out.old)).visit)
+        × (out.new.cells.now ≡ (tiny_of order modulus (orders out.old)).cells) }
 {
-    let n = out.len() / 2;
-    fill(out, 0.0);
-    out[0] = lowest(order);
+    let n = out.len();
+    fill(out.cells, 0.0);
+    out.cells[0] = lowest(order);
     Visit {
         zeros: zeros(order, modulus, n as u32),
         stopped: false,

@@ -1,12 +1,13 @@
 // The downward visit, one order at a time: v + n - 1 to v, each entry into its two cells from the top down, until a zeroed order stops it;
 // the cells below hold the fixed not-a-number. From src/amos/power_series.rs, i_power_series (ZSERI, from 20 on). Promised: visit_of of
 // specs/Visit.antt, record and cells.
-ghost use Rattle.std.specs.Prelude.{◌≡◌, ◌+◌, ◌*◌, ◌/◌, ◌%◌, ◌≤◌, ◌<◌, length, drop, set};
+ghost use Rattle.std.specs.Prelude.{◌≡◌, ◌*◌, ◌≤◌, length, drop};
+ghost use Rattle.power_series.specs.Entries.{orders, Kept};
 ghost use Rattle.power_series.specs.Visit.{walk_of, visit_of};
 ghost use Rattle.power_series.specs.shapes.Visit.{concluded_of};
 
+use crate::entries::Entries;
 use cells::fill::fill;
-use complex::number::Complex;
 use machine::constants::not_a_number;
 use series_step::descent::{Descent, start};
 use series_step::setting::Setting;
@@ -31,43 +32,35 @@ pub struct Standing {
     pub state: Descent,
 }
 
-// The entry of the order v + k into its two cells.
-pub fn put(out: &mut [f64], k: usize, entry: Complex)
-    requires { k * 2 + 1 < length out.old }
-    ensures { out.new ≡ set (set out.old (k * 2 + 1) entry.im) (k * 2) entry.re }
+fn descend(g: Setting, out: &mut Entries) -> Standing
+    ensures kept { Kept out.old out.new }
+    ensures visit { (result ≡ (walk_of g (orders out.old)).standing)
+        × (drop (result.left * 2) out.new.cells.now ≡ (walk_of g (orders out.old)).cells) }
 {
-    out[k * 2 + 1] = entry.im;
-    out[k * 2] = entry.re;
-}
-
-fn descend(g: Setting, out: &mut [f64]) -> Standing
-    requires { (length out.old % 2 ≡ 0) × (length out.old ≤ 1024) }
-    ensures { (result ≡ (walk_of g (length out.old / 2)).standing)
-        × (drop (result.left * 2) out.new ≡ (walk_of g (length out.old / 2)).cells) }
-{
-    let n = out.len() / 2;
+    let n = out.len();
     let mut state = start();
     for k in (0..n).rev() {
         if state.stopped {
             return Standing { left: k + 1, state };
         }
         state = step(g, k as u32, state);
-        put(out, k, state.above);
+        out.put(k, state.above);
     }
     Standing { left: 0, state }
 }
 
 // The record of a visit that ended there, and the fixed not-a-number below it.
-pub fn concluded(r: Standing, out: &mut [f64]) -> Visit
-    requires { (length out.old ≤ 1024) × (r.left * 2 ≤ length out.old) }
-    ensures { (result ≡ (concluded_of r out.old).visit)
-        × (out.new ≡ (concluded_of r out.old).cells) }
+pub fn concluded(r: Standing, out: &mut Entries) -> Visit
+    requires { r.left ≤ orders out.old }
+    ensures kept { Kept out.old out.new }
+    ensures visit { (result ≡ (concluded_of r out.old.cells.now).visit)
+        × (out.new.cells.now ≡ (concluded_of r out.old.cells.now).cells) }
 {
     let left = r.left;
     let s = r.state;
     let c = s.counts;
     let below = left * 2;
-    fill(&mut out[0..below], not_a_number());
+    fill(&mut out.cells[0..below], not_a_number());
     Visit {
         zeros: c.zeros,
         stopped: s.stopped,
@@ -77,10 +70,10 @@ pub fn concluded(r: Standing, out: &mut [f64]) -> Visit
     }
 }
 
-pub fn stepwise(g: Setting, out: &mut [f64]) -> Visit
-    requires { (length out.old % 2 ≡ 0) × (length out.old ≤ 1024) }
-    ensures { (result ≡ (visit_of g (length out.old / 2)).visit)
-        × (out.new ≡ (visit_of g (length out.old / 2)).cells) }
+pub fn stepwise(g: Setting, out: &mut Entries) -> Visit
+    ensures kept { Kept out.old out.new }
+    ensures visit { (result ≡ (visit_of g (orders out.old)).visit)
+        × (out.new.cells.now ≡ (visit_of g (orders out.old)).cells) }
 {
     let r = descend(g, out);
     concluded(r, out)

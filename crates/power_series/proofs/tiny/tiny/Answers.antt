@@ -10,13 +10,13 @@ use Rattle.cells.proofs.FillFacts.{replicate-first}
 use Rattle.power_series.specs.Tiny.{tiny_of}
 use Rattle.power_series.proofs.tiny.tiny.Goals as goal
 
-pub returns : goal.returns
+pub returns-clause-visit : goal.returns-clause-visit
 unfolding tiny_of
-returns c =
-    let d = c in
-    let n = length d.args.out.now in
+returns-clause-visit c =
+    let e = c.args.out.now in
+    let n = length e.cells.now in
     let l = c.lowest in (
-      simp c.zeros.ensures,
+      simp (c.zeros.ensures, c.len-n.ensures),
       rw (← l.ensures)
-          (ap (λ (cells : List Float). set cells 0 l.result) d.fill.ensures ∙ replicate-first n (n / 2 * 2 - 1) nothing l.result (omega arith) (omega arith)),
+          (ap (λ (cells : List Float). set cells 0 l.result) c.fill.ensures ∙ replicate-first n (n / 2 * 2 - 1) nothing l.result (omega (arith, c.requires, e.even)) (omega (arith, c.requires))),
     )

@@ -65,7 +65,7 @@ fn share(terms: u32) -> f64
     ensures { result ≡ share_of terms }
 {
     if 1 <= terms && terms <= 18 {
-        return SHARES[terms as usize - 1];
+        return SHARES[(terms - 1) as usize];
     }
     1.0 / (terms as f64)
 }
@@ -74,7 +74,7 @@ fn square_share(terms: u32) -> f64
     ensures { result ≡ square_share_of terms }
 {
     if 1 <= terms && terms <= 18 {
-        return SQUARE_SHARES[terms as usize - 1];
+        return SQUARE_SHARES[(terms - 1) as usize];
     }
     1.0 / ((terms as f64) * (terms as f64))
 }

@@ -87,6 +87,8 @@ def rust(house, module, numbers):
     code = re.sub(r"(?m)^use std::marker::Model;$", "", code)
     # a function of the kit's that is a cast in Rust
     code = re.sub(r"(?m)^use std::num::saturating_f64_to_u32;$", "fn saturating_f64_to_u32(x: f64) -> u32 { x as u32 }", code)
+    # what holds a lent buffer is moved, and anything else may be copied
+    code = re.sub(r"(?m)^((?:pub )?struct \w+<'a> \{[^}]*&'a mut )", r"#[derive(Debug, PartialEq)] \1", code)
     return re.sub(r"(?m)^((?:pub )?(?:struct|enum) )", r"#[derive(Clone, Copy, Debug, PartialEq)] \1", code)
 
 

@@ -139,13 +139,6 @@ module _ (two_over_z : Complex) (base_order : Float) where
             ∙ ap (λ (k : ℕ). climb_from two_over_z base_order from k a) l;
       }
 
-  -- all of it
-  pub partway-whole : {from to : ℕ} {start c : Climb} → to ≤ from + (c.rungs - start.rungs) → Partway two_over_z base_order from to start c → c ≡ climb_from two_over_z base_order from (to - from) start
-  partway-whole {from} {to} {start} {c} h p =
-      let u = p.inside in
-      let l : c.rungs - start.rungs ≡ to - from = omega arith in
-      p.climbed ∙ ap (λ (k : ℕ). climb_from two_over_z base_order from k start) l
-
 -- ---- a turn of four rungs: one rung of it, two, three, four
 module _ (g : Course) (start : Climb) (from : ℕ) where
   abbrev pub Turning : ℕ → Climb → Type 0

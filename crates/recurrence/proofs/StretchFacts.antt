@@ -1,4 +1,4 @@
--- What a rung is where its value was held: the state stays. Part of a climb: its start, one rung more, two parts in a row, the whole. Assumes nothing.
+-- What a rung is where its value was held: the state stays. Part of a climb: its start, one rung more, two parts in a row. Assumes nothing.
 use mathlib.Core.Path.{◌≡◌, refl, sym, ap, ◌∙◌}
 use mathlib.Core.Bool.{Bool, true, false, true≢false, cond}
 use Prim.Native.Nat.{ℕ, ◌+◌, ◌-◌, ◌≤◌, ◌<◌}

@@ -1,33 +1,31 @@
 -- The climb that fills: one rung more, two fills in a row; its climb is the plain one, and its cells are two a rung. Part of it, in the buffer that it
--- fills, as a state keeps it and off its scale: its start, one rung more, two parts in a row, the whole. Assumes nothing.
+-- fills, as a state keeps it and off its scale: its start, one rung more, two parts in a row. Assumes nothing.
 use mathlib.Core.Path.{◌≡◌, refl, sym, ap, ◌∙◌, subst}
 use mathlib.Core.Bool.{Bool, true, false}
 use mathlib.Core.List.{List, [], ◌∷◌, ◌++◌, append_assoc, append-nil}
-use Prim.Native.Nat.{ℕ, zero, suc, ◌+◌, ◌-◌, ◌*◌, ◌/◌, ◌≤◌, ◌<◌}
+use Prim.Native.Nat.{ℕ, zero, suc, ◌+◌, ◌-◌, ◌*◌, ◌≤◌, ◌<◌}
 use native.Mathlib.Nat.{add-zero, add-suc, add_assoc}
 use native.Mathlib.Numerals.{add-one}
 use native.Mathlib.Omega.{arith}
 use lib.ListN.{length, take, drop, set, length-append, take-append-drop}
-use lib.Seq.{length-take-le, take_at, drop_at, drop-drop}
+use lib.Seq.{length-take-le, drop-drop}
 use lib.Ieee.{Float}
 use Rattle.laws.proofs.Run.{run_out}
-use borrow.Rule.Slice.PartMut.{mid_of, put_mid}
-use Rattle.laws.proofs.Part.{put-after}
-use Rattle.laws.proofs.Seam.{Seam, seam-pair, seam-as, seam-full, seam-take, seam-drop}
+use Rattle.laws.proofs.Seam.{Seam, seam-pair, seam-as, seam-take, seam-drop}
 use Rattle.complex.specs.declared.number.Complex.{Complex}
 use Rattle.complex.specs.Arithmetic.{times_real}
 use Rattle.recurrence.specs.State.{reciprocal_of, limit_of}
 use Rattle.recurrence.specs.Rung.{factor_of, next_of, rung_of}
 use Rattle.recurrence.specs.Climb.{never, climb_from}
 use Rattle.recurrence.specs.Fill.{Filled, fill_step, fill_from}
-use Rattle.recurrence.specs.shapes.Stretch.{off_scale, Partway, PartPut, PartHeld, PartFilled, PartIf, Written}
+use Rattle.recurrence.specs.shapes.Stretch.{off_scale, Partway, PartPut, PartHeld, PartIf, Written}
 use Rattle.recurrence.specs.declared.state.OverflowState.{OverflowState}
 use Rattle.recurrence.specs.declared.state.Climb.{Climb}
 use Rattle.recurrence.specs.declared.state.Rung.{Rung}
 use Rattle.std.specs.declared.option.Option.TheVariants as option
 use Rattle.recurrence.specs.declared.course.Course.{Course}
 use Rattle.recurrence.proofs.ClimbFacts.{plain-last, climb-out, climb-last, climb-again, rung-counted}
-use Rattle.recurrence.proofs.OffScaleFacts.{Spreads, scale-spreads, scale-length, scale-pair}
+use Rattle.recurrence.proofs.OffScaleFacts.{Spreads, scale-spreads, scale-pair}
 use Rattle.recurrence.proofs.StretchFacts.{Standing, held-value, held-rung, partway_start, partway-rung, partway-again}
 
 -- a seam, and another from there on
@@ -168,56 +166,6 @@ module _ (two_over_z : Complex) (base_order : Float) where
   pub filled-length : {off : List Float → List Float} {from to place : ℕ} {start c : Climb} {before out : List Float} → PartPut off two_over_z base_order from to start place before c out → length out ≡ length before
   filled-length p = p.cells.same
 
-  -- all of it
-  pub filled-whole : {from : ℕ} {start c : Climb} {before out : List Float} → length before ≤ (c.rungs - start.rungs) * 2 → PartFilled two_over_z base_order from (from + length before / 2) start 0 before c out
-      → (c ≡ (fill_from two_over_z base_order from (length before / 2) start).climb) × (out ≡ (fill_from two_over_z base_order from (length before / 2) start).cells)
-  filled-whole {from} {start} {c} {before} {out} h p =
-      let u = p.part.inside in
-      let r = p.cells.room in
-      let l : c.rungs - start.rungs ≡ length before / 2 = omega arith in (
-        p.part.climbed ∙ ap (λ (n : ℕ). climb_from two_over_z base_order from n start) l ∙ sym (fill-climb from (length before / 2) start),
-        seam-full (omega arith) p.cells ∙ p.entries ∙ ap (λ (n : ℕ). (fill_from two_over_z base_order from n start).cells) l,
-      )
-
-  -- such a part, off the scale of its state: the lent cells are those that were put
-  pub filled_off : {from to place : ℕ} {start c : Climb} {before out : List Float} (at : ℕ) → at ≡ place + (c.rungs - start.rungs) * 2 → place ≤ length before → PartHeld two_over_z base_order from to start place before c out
-      → (ys : List Float) → ys ≡ off_scale start.state (mid_of place (at - place) out) → PartFilled two_over_z base_order from to start place before c (put_mid place (at - place) out ys)
-  filled_off {from} {to} {place} {start} {c} {before} {out} at e h p ys f =
-      let k = (c.rungs - start.rungs) * 2 in
-      let n = p.cells.count in
-      let front = length-take-le place before h in
-      let long : length p.put ≡ k = put-long (length (take place before)) (length p.put) place k front (sym (length-append (take place before) p.put) ∙ n) in
-      let is = p.cells.is ∙ append_assoc (take place before) p.put (drop (place + k) before) in
-      let lent : mid_of place (at - place) out ≡ p.put =
-      ap (λ (l : List Float). take (at - place) (drop place l)) is
-      ∙ ap (take (at - place)) (drop_at (take place before) (p.put ++ drop (place + k) before) place front)
-      ∙ take_at p.put (drop (place + k) before) (at - place) (long ∙ sym (less place at k e)) in
-      let off : ys ≡ off_scale start.state p.put = f ∙ ap (off_scale start.state) lent in
-      let now : put_mid place (at - place) out ys ≡ (take place before ++ off_scale start.state p.put) ++ drop (place + k) before =
-      ap (λ (l : List Float). put_mid place (at - place) l ys) is
-      ∙ put-after place (at - place) (take place before) (p.put ++ drop (place + k) before) ys front
-      ∙ ap (λ (l : List Float). take place before ++ (ys ++ l)) (drop_at p.put (drop (place + k) before) (at - place) (long ∙ sym (less place at k e)))
-      ∙ ap (λ (l : List Float). take place before ++ (l ++ drop (place + k) before)) off
-      ∙ sym (append_assoc (take place before) (off_scale start.state p.put) (drop (place + k) before)) in
-      let same = length-append (take place before) (off_scale start.state p.put) ∙ ap (λ (m : ℕ). length (take place before) + m) (scale-length start.state p.put) ∙ sym (length-append (take place before) p.put) ∙ n in
-      record {
-        part = p.part;
-        put = off_scale start.state p.put;
-        entries = p.entries;
-        cells = record {
-          count = same;
-          room = p.cells.room;
-          same = ap length now ∙ length-append (take place before ++ off_scale start.state p.put) (drop (place + k) before) ∙ ap (λ (m : ℕ). m + length (drop (place + k) before)) (same ∙ sym n) ∙ sym (length-append (take place before ++ p.put) (drop (place + k) before)) ∙ ap length (sym p.cells.is) ∙ p.cells.same;
-          is = now;
-        };
-      }
-    where
-      put-long : (t l place k : ℕ) → t ≡ place → t + l ≡ place + k → l ≡ k
-      put-long t l place k e g = omega arith
-
-      less : (place at k : ℕ) → at ≡ place + k → at - place ≡ k
-      less place at k e = omega arith
-
   -- ---- such a part that stands at the index i and at the place `at`, and one rung more
   pub record Writing (off : List Float → List Float) (from to : ℕ) (start : Climb) (place : ℕ) (before : List Float) (i : ℕ) (c : Climb) (at : ℕ) (out : List Float) : Type 0 where
     pub index : i ≡ from + (c.rungs - start.rungs)
@@ -311,10 +259,6 @@ module _ (g : Course) (start : Climb) (from place : ℕ) (before : List Float) w
         → Turning (from + 4) (record { older = w₃; newer = w₄; state = start.state; rungs = start.rungs + 4 }) (place + 8) o₄
     turn-four {o₁} {o₂} {o₃} {o₄} {w₁} {w₂} {w₃} {w₄} p₁ p₂ p₃ p₄ =
         turn-rung (from + 4) (start.rungs + 4) (place + 8) o₄ w₄ (omega arith) (omega arith) (omega arith) (omega arith) (omega arith) refl b p₄ (turn_three p₁ p₂ p₃)
-
-  -- what a turn gives back
-  pub turn-length : {i at : ℕ} {c : Climb} {out : List Float} → Turning i c at out → length out ≡ length before
-  turn-length s = s.filled.cells.same
 
   -- its part, and its cells where they are asked for
   pub turn-if : {writes : Bool} {i at : ℕ} {c : Climb} {out : List Float} (d : Climb) → d ≡ c → Standing g.ladder.two_over_z g.ladder.base_order from (from + 4) start i c → (writes ≡ true → Turning i c at out)

@@ -1,4 +1,4 @@
--- What a rung is where its value was held: the state stays. Part of a climb: its start, one rung more, two parts in a row, the whole. Assumes nothing.
+-- What a rung is where its value was held: the state stays. Part of a climb: its start, one rung more, two parts in a row. Assumes nothing.
 use mathlib.Core.Path.{◌≡◌, refl, sym, ap, ◌∙◌}
 use mathlib.Core.Bool.{Bool, true, false, true≢false, cond}
 use Prim.Native.Nat.{ℕ, ◌+◌, ◌-◌, ◌≤◌, ◌<◌}
@@ -138,13 +138,6 @@ module _ (two_over_z : Complex) (base_order : Float) where
             ∙ climb-again two_over_z base_order from (b.rungs - a.rungs) (c.rungs - b.rungs) a
             ∙ ap (λ (k : ℕ). climb_from two_over_z base_order from k a) l;
       }
-
-  -- all of it
-  pub partway-whole : {from to : ℕ} {start c : Climb} → to ≤ from + (c.rungs - start.rungs) → Partway two_over_z base_order from to start c → c ≡ climb_from two_over_z base_order from (to - from) start
-  partway-whole {from} {to} {start} {c} h p =
-      let u = p.inside in
-      let l : c.rungs - start.rungs ≡ to - from = omega arith in
-      p.climbed ∙ ap (λ (k : ℕ). climb_from two_over_z base_order from k start) l
 
 -- ---- a turn of four rungs: one rung of it, two, three, four
 module _ (g : Course) (start : Climb) (from : ℕ) where

@@ -97,7 +97,7 @@ impl Ladder {
     }
 }
 
-// one rung, of the two parts of a ladder
+// One rung, of the parts of a ladder: they stand apart here and in `fill`, whose signatures docs/TRACE.md quotes (C3 and T6), and so in `climb`.
 pub fn rung(two_over_z: Complex, base_order: f64, i: u32, c: Climb) -> Rung
     requires { c.rungs + 1 < 2 ^ 32 }
     ensures { result ≡ rung_of two_over_z base_order i c }

@@ -18,7 +18,8 @@ use Rattle.series_step.specs.Descent.{start_descent}
 use Rattle.series_step.specs.Step.{step_of}
 use Rattle.series_step.proofs.StepFacts.{zeros-grow, rungs-grow}
 use Rattle.power_series.specs.declared.visit.Standing.{Standing}
-use Rattle.power_series.specs.Visit.{Walk, start_walk, is_stopped, with_entry, next_walk, walk_of, visited_of, visit_of}
+use Rattle.power_series.specs.declared.visit.Visit.{Visit}
+use Rattle.power_series.specs.Visit.{Walk, Visited, start_walk, is_stopped, with_entry, next_walk, walk_of, visited_of, visit_of}
 use Rattle.power_series.specs.shapes.Pair.{Settled, walk_from}
 use Rattle.power_series.specs.shapes.Visit.{concluded_of}
 
@@ -162,6 +163,9 @@ walk-left g n = (run_ends stopping (stepping g) (λ i w. w.standing.left ≤ n) 
     keep : (i : ℕ) (w : Walk) → is_stopped w ≡ false → w.standing.left ≤ n → (next_walk g w).standing.left ≤ n
     keep i w e h = omega arith
 
+pub standing-left : (g : Setting) (n : ℕ) (r : Standing) → r ≡ (walk_of g n).standing → r.left ≤ n
+standing-left g n r e = subst (λ (q : Standing). q.left ≤ n) (sym e) (walk-left g n)
+
 -- the first a cells filled with one value, the others as they are
 pub below-filled : (a : ℕ) (xs ys zs : List Float) (r q : Float) → a ≤ length xs → ys ≡ replicate (length (mid_of 0 (a - 0) xs)) r → r ≡ q → drop a xs ≡ zs → put_mid 0 (a - 0) xs ys ≡ replicate a q ++ zs
 below-filled a xs ys zs r q h f e g =
@@ -169,8 +173,17 @@ below-filled a xs ys zs r q h f e g =
     ∙ ap (λ (l : List Float). l ++ drop a xs) (f ∙ ap (λ (k : ℕ). replicate k r) (front_length a xs h) ∙ ap (λ (x : Float). replicate a x) e)
     ∙ ap (λ (l : List Float). replicate a q ++ l) g
 
--- the record and the cells of a visit that ended at r
-pub concluded-visit : (g : Setting) (n : ℕ) (r : Standing) (out : List Float) → r ≡ (walk_of g n).standing → drop (r.left * 2) out ≡ (walk_of g n).cells → concluded_of r out ≡ visit_of g n
+-- the record and the cells of a visit that ended at r, from those that it was concluded with
+pub concluded-visit :
+    (g : Setting) (n : ℕ) (r : Standing) (out : List Float) → r ≡ (walk_of g n).standing → drop (r.left * 2) out ≡ (walk_of g n).cells →
+    {v : Visit} {cells : List Float} → (v ≡ (concluded_of r out).visit) × (cells ≡ (concluded_of r out).cells) →
+    (v ≡ (visit_of g n).visit) × (cells ≡ (visit_of g n).cells)
 unfolding concluded_of visit_of
-concluded-visit g n r out e f =
-    ap (λ (l : List Float). visited_of (record { standing = r; cells = l })) f ∙ ap (λ (q : Standing). visited_of (record { standing = q; cells = (walk_of g n).cells })) e
+concluded-visit g n r out e f k =
+    let same = concluded-same in
+    (k.0 ∙ ap (λ (v : Visited). v.visit) same, k.1 ∙ ap (λ (v : Visited). v.cells) same)
+  where
+    concluded-same : concluded_of r out ≡ visit_of g n
+    concluded-same =
+        ap (λ (l : List Float). visited_of (record { standing = r; cells = l })) f
+        ∙ ap (λ (q : Standing). visited_of (record { standing = q; cells = (walk_of g n).cells })) e

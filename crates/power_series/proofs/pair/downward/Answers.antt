@@ -1,19 +1,16 @@
 -- `power_series::pair::downward` meets its contract: one order, a pair that is near underflow, and the others. Assumes nothing.
 use mathlib.Core.Path.{◌≡◌, sym, ap, ◌∙◌, subst}
 use mathlib.Core.Bool.{false}
-use Prim.Native.Nat.{ℕ, ◌≤◌, ◌<◌}
+use Prim.Native.Nat.{ℕ, ◌<◌}
 use native.Mathlib.Omega.{arith}
 use lib.Ieee.{neg, le}
 use Rattle.machine.specs.Constants.{approximation_limit}
 use Rattle.complex.specs.declared.number.Complex.{Complex}
 use Rattle.series_step.specs.Setting.{order_at}
-use Rattle.power_series.specs.declared.visit.Standing.{Standing}
 use Rattle.series_sum.specs.declared.sums.Two.{Two}
 use Rattle.series_step.specs.declared.descent.Descent.{Descent}
-use Rattle.power_series.specs.Entries.{orders}
-use Rattle.power_series.specs.Visit.{Visited}
 use Rattle.power_series.specs.shapes.Pair.{pair_of, Begun}
-use Rattle.power_series.proofs.WalkFacts.{walk-left, concluded-visit}
+use Rattle.power_series.proofs.WalkFacts.{standing-left, concluded-visit}
 use Rattle.power_series.proofs.PairFacts.{lead_first, begun}
 use Rattle.power_series.proofs.pair.downward.Goals as goal
 
@@ -36,14 +33,11 @@ paired-r-requires c =
 
 pub concluded-requires : goal.concluded-requires
 concluded-requires c =
-    let n = orders c.args.out.now in
     let d = c.paired-r in
-    let h : d.result.left ≤ n = subst (λ (r : Standing). r.left ≤ n) (sym d.ensures.visit.0) (walk-left _ _) in
+    let h = standing-left _ _ d.result d.ensures.visit.0 in
     omega (arith, h, d.ensures.kept.1)
 
 pub returns-clause-visit : goal.returns-clause-visit
 returns-clause-visit c =
     let d = c.paired-r in
-    let k = c.concluded.ensures.visit in
-    let e = concluded-visit _ _ d.result d.new.out.cells.now d.ensures.visit.0 d.ensures.visit.1 in
-    (k.0 ∙ ap (λ (v : Visited). v.visit) e, k.1 ∙ ap (λ (v : Visited). v.cells) e)
+    concluded-visit _ _ d.result d.new.out.cells.now d.ensures.visit.0 d.ensures.visit.1 c.concluded.ensures.visit

@@ -18,8 +18,9 @@ fn is_whole(fraction: f64, fraction_square: f64) -> bool
     fraction == 0.0 && fraction_square == 0.0
 }
 
-// 1/k and 1/k² of k from 1 to 18
-const SHARES: [f64; 18] = [
+// 1/k and 1/k² at each k to 18
+const SHARES: [f64; 19] = [
+    1.0 / 0.0,
     1.0,
     0.5,
     0.3333333333333333,
@@ -40,7 +41,8 @@ const SHARES: [f64; 18] = [
     0.05555555555555555,
 ];
 
-const SQUARE_SHARES: [f64; 18] = [
+const SQUARE_SHARES: [f64; 19] = [
+    1.0 / 0.0,
     1.0,
     0.25,
     0.1111111111111111,
@@ -64,8 +66,8 @@ const SQUARE_SHARES: [f64; 18] = [
 fn share(terms: u32) -> f64
     ensures { result ≡ share_of terms }
 {
-    if 1 <= terms && terms <= 18 {
-        return SHARES[(terms - 1) as usize];
+    if terms <= 18 {
+        return SHARES[terms as usize];
     }
     1.0 / (terms as f64)
 }
@@ -73,8 +75,8 @@ fn share(terms: u32) -> f64
 fn square_share(terms: u32) -> f64
     ensures { result ≡ square_share_of terms }
 {
-    if 1 <= terms && terms <= 18 {
-        return SQUARE_SHARES[(terms - 1) as usize];
+    if terms <= 18 {
+        return SQUARE_SHARES[terms as usize];
     }
     1.0 / ((terms as f64) * (terms as f64))
 }

@@ -31,7 +31,7 @@ pub struct Triangle {
     pub short: f64,
 }
 
-// A tangent, and the same as leading digits and the rest.
+// A tangent, and the same as leading digits and the rest, which are no `Pair`: tangent_of and joined_of of specs/Angle.antt have `high` and `low`.
 #[derive(Clone, Copy)]
 pub struct Tangent {
     pub value: f64,
@@ -46,7 +46,7 @@ pub struct Step {
     pub value: f64,
 }
 
-// `y.max(x)` would ask besides whether one of the two is no number, and promises less of two that are equal.
+// Here and in `smaller`: `y.max(x)` and `y.min(x)` would ask besides whether one is no number, and promise less of two that are equal.
 fn larger(y: f64, x: f64) -> f64
     ensures { result ≡ larger_of y x }
 {
@@ -120,6 +120,8 @@ fn scaled(s: Triangle) -> Triangle
     s
 }
 
+// `Ranged s` stands here, in `tangent_left`, `tabled_arc` and `arc`, and is no invariant: step_of, tangent_of, tabled_arc_of and arc_of of
+// specs/Angle.antt are of a plain `Triangle`, as `sides` makes it out of range too; in a type of its own their `s.long` would be `s.sides.long`.
 fn nearest_step(s: Triangle) -> Step
     requires { Ranged s }
     ensures { result ≡ step_of s }

@@ -35,6 +35,7 @@ pub fn all_finite(cells: &[f64], from: usize) -> bool
     if cells.len() < from {
         return true;
     }
+    // as an array: `for i in 0..8 { z[i] = z[i] * x[i]; }`, two loops in a function (CONTRIBUTING.md has one), with the last product no shorter
     let mut a = 0.0;
     let mut b = 0.0;
     let mut c = 0.0;

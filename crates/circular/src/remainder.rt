@@ -1,5 +1,5 @@
 // What is left of a value from 65536 on when a smaller one is taken off as often as it fits: Rust's `%`, digit by digit on whole numbers. The machine's
-// own `%` of f64 is a call of the C library, which a program of today's kit asks for at a version that not every system has.
+// own `%` of f64 is a call of the C library, which the compiled program asks for at a version that not every system has.
 ghost use Rattle.std.specs.Prelude.{◌≡◌, ◌*◌, ◌/◌, ◌%◌, ◌^◌, ◌≤◌, ◌<◌, T};
 ghost use Rattle.std.specs.Float.{binary64};
 ghost use Rattle.std.specs.Float.Ieee.{of_bits, to_bits, rem, le};

@@ -12,6 +12,8 @@ pub struct Split {
     pub turns: u64,
 }
 
+// sin, cos, sin_pi and cos_pi share this test and its not-a-number, no more: `after(x, |parts| { let angle = reduce(parts.size);
+// sine_at(angle, angle.quarter + parts.turns) })` would keep every other line in the closure, and take a clause on closures besides.
 pub fn parted(x: f64) -> Option<Split>
     ensures { result ≡ split_of x }
 {

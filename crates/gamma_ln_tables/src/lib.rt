@@ -1,5 +1,4 @@
-// The numbers that log-gamma looks up: the coefficients of its series and its values at whole arguments; a crate of their own, since a
-// table's proof is long.
+// The numbers that log-gamma looks up: its values at whole arguments; a crate of their own, since a table's proof is long.
 #![tactic(auto)]
 
 pub mod tables;

@@ -43,7 +43,7 @@ fn of_narrow(bits: u64) -> f64
     ensures { result ≡ ln_narrow bits }
 {
     let shift = u64::leading_zeros(bits) - 11;
-    of_wide(bits << shift, 1023.0 + (shift as f64))
+    of_wide(bits << shift, 1023.0 + f64::from(shift))
 }
 
 fn of_wide(bits: u64, bias: f64) -> f64

@@ -5,19 +5,25 @@
 ghost use Rattle.std.specs.Prelude.{◌≡◌, false, ◌&&◌, ◌+◌, ◌*◌, ◌/◌, ◌%◌, ◌^◌};
 ghost use Rattle.std.specs.Float.{binary64};
 ghost use Rattle.std.specs.Float.Ieee.{of_bits, le};
-ghost use Rattle.roots.specs.Hypot.{sum_of_squares, least_sum, greatest_sum, scaled_hypot, hypot_of};
+ghost use Rattle.roots.specs.Hypot.{root_at, sum_of_squares, least_sum, greatest_sum, scaled_hypot, hypot_of};
 
 use crate::seed::twice_root;
 use machine::bits::pattern;
 use machine::constants::not_a_number;
 use machine::magnitude::magnitude;
 
-// What twice the root of a significand is multiplied with: half of the power of two whose square was taken off. The product is written where it
-// is taken, in two places: in a function of its own the compiler would put the Heron step into it, and make other code of hypot than it did.
+// What twice the root of a significand is multiplied with: half of the power of two whose square was taken off.
 fn half_power(u: u64) -> f64
     ensures { result ≡ of_bits binary64 ((u % 2 ^ 63 / 2 ^ 52 + 1021) / 2 * 2 ^ 52) }
 {
     f64::from_bits((u % 0x8000000000000000 / 0x0010000000000000 + 1021) / 2 * 0x0010000000000000)
+}
+
+// The root of the value of the pattern u.
+fn root(u: u64) -> f64
+    ensures { result ≡ root_at u }
+{
+    twice_root(u) * half_power(u)
 }
 
 fn scaled(a: f64, b: f64, x: f64, y: f64) -> f64
@@ -26,7 +32,7 @@ fn scaled(a: f64, b: f64, x: f64, y: f64) -> f64
     let p = x * a;
     let q = y * a;
     let s = pattern(p * p + q * q);
-    twice_root(s) * half_power(s) * b
+    root(s) * b
 }
 
 // Where the sum of the squares says nothing yet: a part is infinite or not a number, or the squares leave the range.
@@ -65,7 +71,7 @@ pub fn hypot(x: f64, y: f64) -> f64
                 return magnitude(x);
             }
             let u = f64::to_bits(s);
-            return twice_root(u) * half_power(u);
+            return root(u);
         }
         return outside(x, y);
     }

@@ -57,7 +57,7 @@ fn subnormal(u: u64) -> f64
     requires { (0 < u) × (u < 2 ^ 52) }
     ensures { result ≡ sqrt_of (of_bits binary64 u) }
 {
-    let s = u64::leading_zeros(u) as u64 - 11;
+    let s = u64::from(u.leading_zeros()) - 11;
     let v = (u << s) + ((s << 63) >> 11);
     f64::from_bits(digits(v) + ((511 - ((s + 1) >> 1)) << 52))
 }

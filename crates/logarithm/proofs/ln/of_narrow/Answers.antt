@@ -6,7 +6,7 @@ use native.Mathlib.Omega.{arith}
 use lib.Dec.{lit≤}
 use lib.IntN.{pos}
 use lib.Count.{count_leading_zeros}
-use lib.Ieee.{binary64, add, of_bits, of_int}
+use lib.Ieee.{Float, binary64, add, of_bits, of_int}
 use Rattle.logarithm.specs.Ln.{ln_wide, ln_narrow}
 use Rattle.logarithm.proofs.Width.{Shifted, shifted}
 use Rattle.logarithm.proofs.ln.of_narrow.Goals as goal
@@ -34,5 +34,6 @@ unfolding ln_narrow
 returns c =
     let bits = c.args.bits in
     c.of_wide.ensures
+    ∙ ap (λ (x : Float). ln_wide (bits * 2 ^ (count_leading_zeros 64 bits - 11) % 2 ^ 64) (add binary64 (of_bits binary64 0x408FF80000000000) x)) c.from.ensures
     ∙ ap (λ (n : ℕ). ln_wide n (add binary64 (of_bits binary64 0x408FF80000000000) (of_int binary64 (pos (count_leading_zeros 64 bits - 11)))))
     (kept bits (shifted bits c.requires.0 c.requires.1))

@@ -5,7 +5,7 @@ use lib.Dec.{T}
 use lib.Ieee.{Float, of_bits, le}
 use lib.Ieee.Scale.{finite}
 use Rattle.laws.proofs.Value.{finite-no-nan}
-use Rattle.roots.specs.Hypot.{root_at, sum_of_squares, least_sum, greatest_sum}
+use Rattle.roots.specs.Hypot.{sum_of_squares, least_sum, greatest_sum}
 use Rattle.roots.proofs.HypotCases.{within-range, zero_left, zero_right, full, full-within}
 use Rattle.roots.proofs.hypot.hypot.Goals as goal
 
@@ -27,10 +27,10 @@ float_to_bits-u c = finite-no-nan _ (inside c.args.x c.args.y c.if-s.true c.if-s
 
 -- between the two tests of the range the full length is the root of the sum itself
 pub returns-then-s-2 : goal.returns-then-s-2
-unfolding of_bits sum_of_squares least_sum greatest_sum root_at
+unfolding of_bits sum_of_squares least_sum greatest_sum
 returns-then-s-2 c =
     let i = inside c.args.x c.args.y c.if-s.true c.if-s-2.true in
-    rw (c.twice_root.ensures, c.half_power.ensures)
+    rw c.root.ensures
     (sym
     (full _ _ i.1 i.2 c.if-x.false c.if-y.false
     ∙ full-within _ _ c.if-s.true c.if-s-2.true))

@@ -1,10 +1,9 @@
 -- `roots::sqrt::subnormal` meets its contract: the shift brings the pattern to 53 digits, none of which is lost, and the root's digits and field are those of the definition. Assumes nothing.
-use mathlib.Core.Path.{◌≡◌, refl, sym, ap, ◌∙◌, subst}
+use mathlib.Core.Path.{◌≡◌, sym, ap, ◌∙◌, subst}
 use Prim.Native.Nat.{ℕ, ◌+◌, ◌-◌, ◌*◌, ◌/◌, ◌%◌, ◌^◌, ◌<◌}
 use native.Mathlib.Nat.{mod-eq_of_lt, lt_trans}
 use native.Mathlib.Omega.{arith}
 use lib.Dec.{lit<}
-use lib.Count.{leading_le}
 use lib.Ieee.{binary64, of_bits}
 use Rattle.laws.proofs.Bits.{bits-no-nan}
 use Rattle.roots.specs.Sqrt.{nearest_root}
@@ -30,9 +29,6 @@ few r v e = subst (λ (t : ℕ). t < 2 ^ 53) (sym e) (digits_lt v)
 field : (r s : ℕ) → r + (511 - (s + 1) / 2) * 2 ^ 52 % 2 ^ 64 ≡ r + (511 - (s + 1) / 2) * 2 ^ 52
 field r s = omega arith
 
-pub overflow_cast-s : goal.overflow_cast-s
-overflow_cast-s c = omega (arith, leading_le 64 c.args.u)
-
 pub overflow_sub-s : goal.overflow_sub-s
 overflow_sub-s c = omega (arith, shift-range c.args.u c.requires.0 c.requires.1)
 
@@ -40,10 +36,10 @@ pub overflow_shl-v : goal.overflow_shl-v
 overflow_shl-v c = omega (arith, shift-range c.args.u c.requires.0 c.requires.1)
 
 pub overflow_add-v : goal.overflow_add-v
-overflow_add-v c = omega (arith, whole c.args.u c.requires.0 c.requires.1, brought-most c.args.u c.requires.0 c.requires.1)
+overflow_add-v c = rw c.from-s.ensures (omega (arith, whole c.args.u c.requires.0 c.requires.1, brought-most c.args.u c.requires.0 c.requires.1))
 
 pub digits-requires : goal.digits-requires
-digits-requires c = omega (arith, whole c.args.u c.requires.0 c.requires.1, brought-most c.args.u c.requires.0 c.requires.1)
+digits-requires c = rw c.from-s.ensures (omega (arith, whole c.args.u c.requires.0 c.requires.1, brought-most c.args.u c.requires.0 c.requires.1))
 
 pub overflow_add-result : goal.overflow_add-result
 overflow_add-result c = omega (arith, shift-range c.args.u c.requires.0 c.requires.1)
@@ -59,6 +55,8 @@ float_from_bits-result c = bits-no-nan _ (omega (arith, few c.digits.result _ c.
 
 pub returns : goal.returns
 returns c =
-    ap (of_bits binary64) (field c.digits.result (shift c.args.u))
-    ∙ ap (λ (t : ℕ). of_bits binary64 (t + (511 - (shift c.args.u + 1) / 2) * 2 ^ 52)) (found c.args.u c.digits.result _ c.requires.0 c.requires.1 refl c.digits.ensures)
+    let brought-by = ap (λ (s : ℕ). c.args.u * 2 ^ (s - 11) % 2 ^ 64 + (s - 11) * 2 ^ 63 % 2 ^ 64 / 2 ^ 11) c.from-s.ensures in
+    ap (of_bits binary64) (field c.digits.result (c.from-s.result - 11))
+    ∙ ap (λ (s : ℕ). of_bits binary64 (c.digits.result + (511 - (s - 11 + 1) / 2) * 2 ^ 52)) c.from-s.ensures
+    ∙ ap (λ (t : ℕ). of_bits binary64 (t + (511 - (shift c.args.u + 1) / 2) * 2 ^ 52)) (found c.args.u c.digits.result _ c.requires.0 c.requires.1 brought-by c.digits.ensures)
     ∙ sym (sqrt-subnormal c.args.u c.requires.0 c.requires.1)

@@ -15,7 +15,7 @@ pub fn factors(z: f64, wanted: u32) -> Multiplied
 {
     let mut product = 1.0;
     for count in 0..wanted {
-        product *= z + count as f64;
+        product *= z + f64::from(count);
     }
     Multiplied {
         product,

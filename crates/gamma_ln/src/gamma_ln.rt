@@ -71,6 +71,8 @@ fn stirling(z: f64) -> Computed
 // 2^52, from which on no f64 has a fraction: added to a number up to 101 and taken off, it leaves the nearest whole number, of two the even one.
 const GRID: f64 = 4503599627370496.0;
 
+// `is_tabulated`, `raised` and `summed` ask that x is not 0 or less, and take it as it is: is_tabulated, series_argument_of and summed_of of
+// specs/GammaLn.antt are definitions over any f64. A type that holds the test would be opened in each of the three (`x.value`).
 fn is_tabulated(x: f64) -> bool
     requires { le x nothing ≡ false }
     ensures { result ≡ is_tabulated x }

@@ -39,6 +39,7 @@ fn is_plain(modulus: f64, value: Complex) -> bool
     false
 }
 
+// turned, order, z and modulus are the parameters of setting_of (specs/Setting.antt of series_step), which the clause names.
 pub fn alone(turned: bool, order: f64, z: Complex, modulus: f64, out: &mut Entries) -> Visit
     requires { (eq order nothing ≡ true) × (orders out.old ≡ 1) }
     ensures kept { Kept out.old out.new }

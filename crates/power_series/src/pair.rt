@@ -35,8 +35,8 @@ fn seeds(g: Setting, n: u32, first: Complex, second: Complex) -> Two<Descent>
     let whole = first.exp();
     let other = second.exp();
     let sums = two_sums(
-        g.order + ((n - 1) as f64),
-        g.order + ((n - 2) as f64),
+        g.order + f64::from(n - 1),
+        g.order + f64::from(n - 2),
         g.half_z_sq,
         g.abs_half_z_sq,
     );
@@ -119,8 +119,8 @@ pub fn downward(g: Setting, out: &mut Entries) -> Visit
     if n < 2 {
         return Visit { ..stepwise(g, out) };
     }
-    let first = leading(g, g.order + ((n - 1) as f64));
-    let second = leading(g, g.order + ((n - 2) as f64));
+    let first = leading(g, g.order + f64::from(n - 1));
+    let second = leading(g, g.order + f64::from(n - 2));
     if first.re <= -Machine::APPROXIMATION_LIMIT {
         return Visit { ..stepwise(g, out) };
     }

@@ -28,6 +28,9 @@ fn is_alone(scaled: bool, order: f64, n: usize) -> bool
     false
 }
 
+// The clause is what Entries::of asks: here the lent slice becomes Entries, which hold it for all that is below. With `out: &mut Entries` it would only
+// stand at the caller, in bessel/src/series.rt. The parameters are those of power_series_of of specs/Series.antt, in its order, in which the theorem
+// series-fits (docs/TRACE.md) names them: so scaled and turned are two, and order, z and modulus stand apart.
 pub fn power_series(
     scaled: bool,
     turned: bool,

@@ -7,7 +7,6 @@ ghost use Rattle.power_series.specs.Visit.{walk_of, visit_of};
 ghost use Rattle.power_series.specs.shapes.Visit.{concluded_of};
 
 use crate::entries::Entries;
-use cells::fill::fill;
 use machine::constants::not_a_number;
 use series_step::descent::{Descent, start};
 use series_step::setting::Setting;
@@ -15,7 +14,8 @@ use series_step::step::step;
 
 // How many orders were set to zero, whether and where the visit stopped, the terms of its longest sum, and its steps of recurrence.
 // Finished are the entries from the place up; it is 0 where the visit did not stop. visited_of of specs/Visit.antt has the two apart, and
-// callers read the place in either case: an Option<usize> would be read as `visit.stopped_at.unwrap_or(0)`.
+// callers read the place in either case: an Option<usize> would be read as `visit.stopped_at.unwrap_or(0)`. It has the three counts apart too, and
+// not as one Tally: `concluded` sets them as visited_of does, and `tiny` as tiny_of of specs/Tiny.antt.
 #[derive(Clone, Copy)]
 pub struct Visit {
     pub zeros: u32,
@@ -60,7 +60,7 @@ pub fn concluded(r: Standing, out: &mut Entries) -> Visit
     let s = r.state;
     let c = s.counts;
     let below = left * 2;
-    fill(&mut out.cells[0..below], not_a_number());
+    out.cells[0..below].fill(not_a_number());
     Visit {
         zeros: c.zeros,
         stopped: s.stopped,

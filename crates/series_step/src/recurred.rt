@@ -8,11 +8,15 @@ use crate::setting::Setting;
 use complex::number::Complex;
 use machine::constants::Machine;
 
+// The bounds on k, here and in `recurred`, and on the rungs stand in clauses, and in no type: backward_of and recurred_of of specs/Recurred.antt are
+// definitions over every number k and every state, and start_descent and its like would have to carry proofs of a bound held in Descent or Tally.
+// A turned setting subtracts: backward_if of specs/Recurred.antt has both signs, and the theorems on the series are for both (visit-sums-end and
+// answered-sums-end, docs/TRACE.md), though I alone is exported.
 pub fn backward(g: Setting, k: u32, older: Complex, newer: Complex) -> Complex
     requires { k + 1 < 2 ^ 32 }
     ensures { result ≡ backward_of g k older newer }
 {
-    let modified_order = ((k + 1) as f64) + g.order;
+    let modified_order = f64::from(k + 1) + g.order;
     let product = g.two_over_z * newer * modified_order;
     if g.turned {
         return product - older;

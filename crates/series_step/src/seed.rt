@@ -12,6 +12,8 @@ use complex::number::Complex;
 use machine::constants::Machine;
 use series_sum::sum::single_n_iteration;
 
+// The bounds on the zeros and on the seeded orders, here and in `kept`, `summed` and `seed`, stand in clauses, and in no type: zeroed_of, kept_of,
+// summed_of and seed_of of specs/Seed.antt are definitions over every state, and build it field by field, with no place for a proof.
 fn zeroed(g: Setting, order: f64, s: Descent) -> Descent
     requires { s.counts.zeros + 1 < 2 ^ 32 }
     ensures { result ≡ zeroed_of g order s }

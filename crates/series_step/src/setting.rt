@@ -22,6 +22,8 @@ pub struct Setting {
 // the root of the underflow limit: the square of a smaller argument underflows
 const SQUARE_LIMIT: f64 = 4.7170688552396617e-153;
 
+// Both ways are there though I is not turned: visit-sums-end, answered-sums-end and series-fits (docs/TRACE.md) are stated for either sign of
+// (z/2)², by the parameter `turned` of setting_of and power_series_of.
 pub fn turn(turned: bool, w: Complex) -> Complex
     ensures { result ≡ turned_of turned w }
 {
@@ -40,6 +42,8 @@ pub fn square_of(modulus: f64, half: Complex) -> Complex
     Complex::ZERO
 }
 
+// The parameters are those of setting_of, in its order: the theorems that docs/TRACE.md quotes (visit-sums-end, answered-sums-end) name it with
+// each of the five apart. So in `alone` and `power_series` of power_series.
 pub fn prepare(scaled: bool, turned: bool, order: f64, z: Complex, modulus: f64) -> Setting
     ensures { result ≡ setting_of scaled turned order z modulus }
 {

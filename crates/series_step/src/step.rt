@@ -8,12 +8,13 @@ use crate::recurred::recurred;
 use crate::seed::seed;
 use crate::setting::Setting;
 
+// The bounds on k and on the two counts are what `seed` and `recurred` ask, which say why no type holds them.
 pub fn step(g: Setting, k: u32, s: Descent) -> Descent
     requires { (k + 1 < 2 ^ 32) × (s.counts.zeros + 1 < 2 ^ 32) × (s.counts.rungs + 1 < 2 ^ 32) }
     ensures { result ≡ step_of g k s }
 {
     if s.seeded < 2 {
-        return seed(g, g.order + (k as f64), s);
+        return seed(g, g.order + f64::from(k), s);
     }
     recurred(g, k, s)
 }

@@ -134,6 +134,8 @@ impl Squares {
     }
 }
 
+// The two squares stand apart here and in `two_sums`, as in sum_of of specs/Sum.antt, which both are; a caller has them as fields of its own, half_z_sq and
+// abs_half_z_sq of Setting, which setting_of of series_step's specs/Setting.antt sets one by one.
 pub fn single_n_iteration(order: f64, half_z_sq: Complex, abs_half_z_sq: f64) -> Sum
     ensures { result ≡ sum_of order half_z_sq abs_half_z_sq }
 {

@@ -24,7 +24,8 @@ fn both_go_on(t: Two<f64>, higher: Partial, lower: Partial) -> bool
     a.error > t.higher && b.error > t.lower
 }
 
-// Two turns at a time, so that a term stays in the registers in which it was worked out. The states count their own terms, as in Squares::finish.
+// Two turns at a time, so that a term stays in the registers in which it was worked out. The states count their own terms:
+// `for _ in (begun.higher.terms..18).step_by(2)` would count them a second time.
 fn side_by_side(w: Squares, t: Two<f64>, begun: Two<Partial>) -> Two<Partial>
     requires { (begun.higher.terms ≤ 19) × (begun.lower.terms ≡ begun.higher.terms) }
     ensures { (result.higher.terms ≤ 19)

@@ -22,7 +22,7 @@ unfolding with_factor
 loop-count-preserved c =
     let d = c in
     let z = d.args.z in
-    ap (with_factor z) d.loop-count.invariant ∙ one_more z d.loop-count.count
+    rw d.from.ensures (ap (with_factor z) d.loop-count.invariant ∙ one_more z d.loop-count.count)
 
 pub returns : goal.returns
 returns c =

@@ -30,4 +30,4 @@ returns c =
     let d = c in
     let x = d in
     let t = d.two_sums-sums.ensures in
-    simp (c.entered-lower.ensures, c.entered-higher.ensures, c.start.ensures, t.0, t.1, x.exp-other.ensures, x.exp-whole.ensures)
+    simp (c.entered-lower.ensures, c.entered-higher.ensures, c.start.ensures, t.0, t.1, x.exp-other.ensures, x.exp-whole.ensures, c.from.ensures, c.from-2.ensures)

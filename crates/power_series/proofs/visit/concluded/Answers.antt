@@ -8,4 +8,4 @@ use Rattle.power_series.proofs.visit.concluded.Goals as goal
 
 pub returns-clause-visit : goal.returns-clause-visit
 unfolding visited_of concluded_of
-returns-clause-visit c = (refl, below-filled _ _ _ _ _ _ (omega (arith, c.requires)) c.fill.ensures c.not_a_number.ensures refl)
+returns-clause-visit c = (refl, below-filled _ _ _ _ _ _ (omega (arith, c.requires)) (c.fill.ensures.after (λ y e. e)) c.not_a_number.ensures refl)

@@ -6,7 +6,7 @@ use Rattle.series_step.proofs.step.step.Goals as goal
 
 pub returns-then-s-lt2 : goal.returns-then-s-lt2
 unfolding order_at step_if step_of
-returns-then-s-lt2 c = simp (c.seed.ensures, lt-ltb _ _ c.if-s-lt2.true)
+returns-then-s-lt2 c = simp (c.seed.ensures, c.from.ensures, lt-ltb _ _ c.if-s-lt2.true)
 
 pub returns : goal.returns
 unfolding step_if step_of

@@ -13,6 +13,7 @@ pub struct Arguments {
     pub modulus: f64,
 }
 
+// The three numbers come apart, here and in `i`, `k` and series_call, as arguments_of takes them: docs/TRACE.md (M3) quotes the signatures of `i` and `k`.
 #[tactic(auto, unfolding(crate::specs::Arguments::arguments_of))]
 pub fn prepare(v: f64, re: f64, im: f64) -> Arguments
     ensures { result ≡ arguments_of v re im }

@@ -15,7 +15,7 @@ fn beyond_series(a: Arguments, n: u32) -> bool
     requires { 0 < n }
     ensures { result ≡ beyond_series a.order n a.modulus }
 {
-    let largest_order = a.order + ((n - 1) as f64);
+    let largest_order = a.order + f64::from(n - 1);
     a.modulus * a.modulus * 0.25 > largest_order + 1.0
 }
 

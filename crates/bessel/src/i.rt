@@ -1,6 +1,6 @@
 // The entry point of I: n consecutive orders from v up at z = re + im·i, plain or times e^-re, into the lent cells, re before im.
 // From src/amos/right_half_plane.rs, i_right_half_plane (ZBINU), its power series path alone; DLMF 10.25.2.
-// Promised for every input: i_outcome of specs/I.antt, the record and every cell.
+// Promised for every input: i_outcome of specs/I.antt, the answer and every cell.
 ghost use Rattle.std.specs.Prelude.{◌≡◌, length};
 ghost use Rattle.bessel.specs.I.{i_outcome};
 

@@ -1,6 +1,6 @@
 // The entry point of K: n consecutive orders from v up at z = re + im·i, plain or times e^z, into the lent cells, re before im.
 // From src/amos/right_half_plane.rs, k_right_half_plane (ZBKNU), behind the checks that docs/SCOPE.md settles.
-// Promised for every input: k_outcome of specs/K.antt, the record and every cell.
+// Promised for every input: k_outcome of specs/K.antt, the answer and every cell.
 ghost use Rattle.std.specs.Prelude.{◌≡◌, true, T, length};
 ghost use Rattle.std.specs.Float.Ieee.{le};
 ghost use Rattle.laws.proofs.Relative.{nonnegative};
@@ -16,7 +16,8 @@ use call::answer::{Answer, Counts, signed};
 use refusal::refusal::Refusal;
 use right_half_plane::kernel;
 
-// Every entry of an answer is finished; a refusal has left the cells as they were, and they are filled here.
+// Every entry of an answer is finished; a refusal has left the cells as they were, and they are filled here. The counts go over field by field, as
+// counts_answer has it, and by no `From`: `signed` asks for a count below 2^31, which the clause Fewer gives here, and `from` may ask for nothing.
 fn concluded(ending: Result<kernel::Counts, Refusal>, out: &mut [f64]) -> Answer
     requires { Fewer ending }
     ensures { (result ≡ (concluded_of (length out.old) (kernel_steps ending out.old)).answer)
@@ -37,6 +38,8 @@ fn concluded(ending: Result<kernel::Counts, Refusal>, out: &mut [f64]) -> Answer
     }
 }
 
+// What is asked of the order and of the modulus is no fact of Arguments: k_checks and k_steps, and the theorem `listed` of proofs/KernelOutcome.antt, are
+// about any three numbers. The checks give it (proofs/ArgumentFacts.antt).
 fn by_kernel(scaled: bool, a: Arguments, out: &mut [f64]) -> Answer
     requires { (length_inside (length out.old) ≡ true)
         × T (nonnegative a.order)

@@ -1,4 +1,4 @@
-// The entry points: which calls are admitted, every cell of the lent buffer, and the answer record.
+// The entry points: which calls are admitted, every cell of the lent buffer, and the answer: its counts, or its refusal.
 // docs/SCOPE.md, Domain and refusals, has the rules; the steps behind the checks are the kernels' crates.
 #![tactic(auto)]
 

@@ -1,6 +1,6 @@
 // A call by the power series, for either sign of z²/4: the checks, the visit of the orders, and the judgement of the finished entries.
 // From src/amos/right_half_plane.rs, i_right_half_plane (ZBINU), its power series path alone (ZSERI); DLMF 10.25.2.
-// Promised for every input: series_outcome of specs/Series.antt, the record and every cell.
+// Promised for every input: series_outcome of specs/Series.antt, the answer and every cell.
 ghost use Rattle.std.specs.Prelude.{◌≡◌, true, length};
 ghost use Rattle.call.specs.Limits.{length_inside};
 ghost use Rattle.bessel.specs.Outcome.{concluded_of};
@@ -12,7 +12,8 @@ use crate::outcome::{judge, refuse};
 use call::answer::{Answer, Counts, signed};
 use power_series::series::power_series;
 
-// Only the entries from the place where the visit stopped are finished: it is 0 where it did not stop.
+// Only the entries from the place where the visit stopped are finished: it is 0 where it did not stop. `scaled` and `turned` come apart, as visited_by and
+// series_outcome take them, which the theorems quoted in docs/TRACE.md (M1, M2) name.
 fn by_series(scaled: bool, turned: bool, a: Arguments, out: &mut [f64]) -> Answer
     requires { length_inside (length out.old) ≡ true }
     ensures { (result ≡ (concluded_of (length out.old) (visit_steps (visited_by scaled turned a (length out.old)))).answer)

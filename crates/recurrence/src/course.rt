@@ -19,7 +19,8 @@ pub struct Course {
 }
 
 impl Course {
-    // the value at the index i, where the state stays at it; p is the factor's real part
+    // The value at the index i, where the state stays at it; p is the factor's real part. Here and in rung.rt `i as f64` is the conversion that factor_of
+    // names; `f64::from(i)` is the same one behind a call, and the factor then equals factor_of by that call's promise alone: longer, here and in each proof.
     pub fn next_held(self, p: f64, i: u32, older: Complex, newer: Complex) -> Option<Complex>
         requires { Suits self p i }
         ensures { result ≡ held_of self.most (next_of (factor_of self.ladder.two_over_z self.ladder.base_order i) older newer) }

@@ -6,7 +6,7 @@ ghost use Rattle.recurrence.specs.First.{start_of, ended_of, settled_of, first_o
 
 use crate::search::{Search, lowers_first_orders, search_at, search_from};
 use crate::trial::first_trial;
-use complex::number::{Complex, zero_pair};
+use complex::number::Complex;
 
 // How many orders are zero, the two after them, raised by 2^52 (zero where there are none), and the rungs climbed.
 #[derive(Clone, Copy)]
@@ -17,6 +17,8 @@ pub struct FirstOrders {
     pub rungs: u32,
 }
 
+// The orders come as a plain number, here and in `settled` and `first_orders`: ended_of, settled_of and first_orders of specs/First.antt, and the theorem
+// first_counted, have it so and for 0 too. So `0 < n` is a clause of each of the three.
 fn ended(n: u32, t: Option<Complex>, rungs: u32) -> FirstOrders
     requires { 0 < n }
     ensures { result ≡ ended_of n t rungs }
@@ -25,13 +27,13 @@ fn ended(n: u32, t: Option<Complex>, rungs: u32) -> FirstOrders
         Some(first) => FirstOrders {
             zeros: n - 1,
             first,
-            second: zero_pair(),
+            second: Complex::ZERO,
             rungs,
         },
         None => FirstOrders {
             zeros: n,
-            first: zero_pair(),
-            second: zero_pair(),
+            first: Complex::ZERO,
+            second: Complex::ZERO,
             rungs,
         },
     }

@@ -9,6 +9,10 @@ use crate::rung::Ladder;
 use crate::state::Climb;
 use crate::stretch::{put, stretch};
 
+// The ladder, the indices, the start, the cells and the place come apart, here and in stretch.rt, as FilledIf and PartIf of specs/shapes/Stretch.antt take
+// them, and in climb.rt and fill.rt, as climb_from and fill_from do: so what is asked of them stands in clauses. The place goes beside the cells, since
+// `&mut out[place..]` could be taken under WRITES alone: the climb lends none.
+
 // a stretch, with its entries off the scale
 fn entries<const WRITES: bool>(
     ladder: Ladder,

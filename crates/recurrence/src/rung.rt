@@ -97,7 +97,8 @@ impl Ladder {
     }
 }
 
-// One rung, of the parts of a ladder: they stand apart here and in `fill`, whose signatures docs/TRACE.md quotes (C3 and T6), and so in `climb`.
+// One rung, as docs/TRACE.md quotes it (C3): for that alone it stands beside Ladder::rung. The parts of a ladder come apart here and in `fill` (T6), whose
+// signatures are quoted there, and in `climb`, search_from and first_orders, as climb_from, search_from and first_orders of specs/ have them.
 pub fn rung(two_over_z: Complex, base_order: f64, i: u32, c: Climb) -> Rung
     requires { c.rungs + 1 < 2 ^ 32 }
     ensures { result ≡ rung_of two_over_z base_order i c }

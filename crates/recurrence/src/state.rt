@@ -23,7 +23,8 @@ pub struct Climb {
     pub rungs: u32,
 }
 
-// What one rung gives: the climb after it, its value off the scale, and whether the state moved.
+// What one rung gives: the climb after it, its value off the scale, and whether the state moved. No code reads `moved`, and it stays: moves_from of
+// specs/Climb.antt, by which the theorem two-moves-in-all counts (proofs/ClimbFacts.antt), reads it.
 #[derive(Clone, Copy)]
 pub struct Rung {
     pub climb: Climb,

@@ -23,6 +23,8 @@ pub struct Ground {
     pub count: u32,
 }
 
+// The order, z and its modulus come apart, here and in kernel.rt, as ground_of and kernel_of take them: the theorems start-exactly and climb-exactly are
+// about any three. Arguments, which holds three, is of crate bessel, above this one. So the order's range is asked for by clauses, here and there.
 pub fn prepare(order: f64, z: Complex, modulus: f64, count: u32) -> Ground
     requires { T (nonnegative order) × T (le order largest_order) }
     ensures { result ≡ ground_of order z modulus count }

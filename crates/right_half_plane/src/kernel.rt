@@ -18,7 +18,8 @@ use recurrence::fill as climb_fill;
 use recurrence::state::Climb;
 use refusal::refusal::Refusal;
 
-// The orders set to zero, the terms of the sum, the rungs climbed, and Miller's backward steps.
+// The orders set to zero, the terms of the sum, the rungs climbed, and Miller's backward steps. Kernel of specs/Kernel.antt, which the theorems
+// kernel-answers and start-exactly speak of, ends with these: its zeros are a plain number, where those of crate call's Counts have a sign.
 #[derive(Clone, Copy, Debug, PartialEq, Eq)]
 pub struct Counts {
     pub zeros: u32,
@@ -28,7 +29,8 @@ pub struct Counts {
 }
 
 impl Ground {
-    // The cells after the zeros: two entries, where there is room, and the entries of the climb in what remains.
+    // The cells after the zeros: two entries, where there is room, and the entries of the climb in what remains. How many cells there are is a clause here and
+    // in k_right_half_plane: Entries, which knows it, is of crate power_series, on which this one does not stand, and `fill` takes cells (docs/TRACE.md, T6).
     fn rest(self, lead: Lead, part: &mut [f64]) -> u32
         requires { (length part.old % 2 ≡ 0) × (length part.old ≤ 1024) × LeadFits self lead }
         ensures { (result ≡ (rest_of self lead (length part.old / 2)).rungs)

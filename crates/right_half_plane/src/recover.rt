@@ -5,6 +5,7 @@
 ghost use Rattle.std.specs.Prelude.{◌≡◌, ◌≤◌};
 ghost use Rattle.right_half_plane.specs.Recover.{is_zero_pair, settled_of, recover_of};
 
+use call::limits;
 use complex::number::Complex;
 use recurrence::search::{Search, lowers_out_of_underflow, search_at, search_from};
 use recurrence::state::{Climb, OverflowState};
@@ -17,11 +18,12 @@ pub struct Resumed {
     pub next_offset: u32,
 }
 
-#[tactic(auto, unfolding(crate::specs::Recover::is_zero_pair))]
+// both parts are zero, of either sign
+#[tactic(auto, unfolding(crate::specs::Recover::is_zero_pair, call::specs::Limits::is_zero))]
 fn is_zero(w: Complex) -> bool
     ensures { result ≡ is_zero_pair w }
 {
-    w.re == 0.0 && w.im == 0.0
+    limits::is_zero(w.re, w.im)
 }
 
 // What was found is the pair, unless a zero is among it.

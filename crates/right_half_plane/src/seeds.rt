@@ -32,7 +32,8 @@ pub struct Seeded {
 }
 
 // Whether the modulus is at most 2. The parts are there before the modulus is, and mostly tell. That the modulus is that of z is asked for by clauses,
-// here and in `seed`, and is no fact of Ground: the theorems about ground_of take any two numbers.
+// here, in `seed`, in k_right_half_plane (kernel.rt) and in by_kernel of crate bessel, and is no fact of Ground: the theorems about ground_of take any
+// two numbers.
 fn within_two(z: Complex, modulus: f64) -> bool
     requires { modulus ≡ modulus_of z }
     ensures { result ≡ le modulus two }

@@ -4,8 +4,8 @@ use Rattle.recurrence.proofs.first.ended.Goals as goal
 
 pub returns-in-Some : goal.returns-in-Some
 unfolding ended_of
-returns-in-Some c = rw (c.zero_pair.ensures, c.in-Some.is)
+returns-in-Some c = rw c.in-Some.is
 
 pub returns-in-None : goal.returns-in-None
 unfolding ended_of
-returns-in-None c = rw (c.zero_pair-in-None.ensures, c.zero_pair-in-None-2.ensures, c.in-None.is)
+returns-in-None c = rw c.in-None.is

@@ -1,16 +1,81 @@
--- `temme::shares::square_share` meets its contract: the table is that of the squares' quotients, by computation at each of its 18 entries. Assumes nothing.
+-- `temme::shares::square_share` meets its contract, by computation at each of its 18 entries. Assumes nothing.
 use mathlib.Core.Path.{refl}
-use native.Mathlib.Omega.{arith}
-use lib.Ieee.{of_bits, of_int, mul, div, nan}
-use Prim.Native.Nat.{◌-◌}
-use Rattle.std.proofs.lemmas.List.FromFn.{get_or-map-range_with_len}
+use lib.Ieee.{of_bits, of_int, mul, div}
 use Rattle.temme.specs.shapes.Shares.{square_share_of}
 use Rattle.temme.proofs.shares.square_share.Goals as goal
 
-pub returns-then-terms-le18 : goal.returns-then-terms-le18
+pub returns-in-1 : goal.returns-in-1
 unfolding square_share_of of_bits of_int mul div
-returns-then-terms-le18 c = let h = c.if-terms-ge1.true in let k = c.if-terms-le18.true in get_or-map-range_with_len square_share_of 1 18 (c.args.terms - 1) c.args.terms nan (omega arith) (omega arith)
+returns-in-1 c = rw c.in-1.is
 
-pub returns : goal.returns
+pub returns-in-2 : goal.returns-in-2
+unfolding square_share_of of_bits of_int mul div
+returns-in-2 c = rw c.in-2.is
+
+pub returns-in-3 : goal.returns-in-3
+unfolding square_share_of of_bits of_int mul div
+returns-in-3 c = rw c.in-3.is
+
+pub returns-in-4 : goal.returns-in-4
+unfolding square_share_of of_bits of_int mul div
+returns-in-4 c = rw c.in-4.is
+
+pub returns-in-5 : goal.returns-in-5
+unfolding square_share_of of_bits of_int mul div
+returns-in-5 c = rw c.in-5.is
+
+pub returns-in-6 : goal.returns-in-6
+unfolding square_share_of of_bits of_int mul div
+returns-in-6 c = rw c.in-6.is
+
+pub returns-in-7 : goal.returns-in-7
+unfolding square_share_of of_bits of_int mul div
+returns-in-7 c = rw c.in-7.is
+
+pub returns-in-8 : goal.returns-in-8
+unfolding square_share_of of_bits of_int mul div
+returns-in-8 c = rw c.in-8.is
+
+pub returns-in-9 : goal.returns-in-9
+unfolding square_share_of of_bits of_int mul div
+returns-in-9 c = rw c.in-9.is
+
+pub returns-in-10 : goal.returns-in-10
+unfolding square_share_of of_bits of_int mul div
+returns-in-10 c = rw c.in-10.is
+
+pub returns-in-11 : goal.returns-in-11
+unfolding square_share_of of_bits of_int mul div
+returns-in-11 c = rw c.in-11.is
+
+pub returns-in-12 : goal.returns-in-12
+unfolding square_share_of of_bits of_int mul div
+returns-in-12 c = rw c.in-12.is
+
+pub returns-in-13 : goal.returns-in-13
+unfolding square_share_of of_bits of_int mul div
+returns-in-13 c = rw c.in-13.is
+
+pub returns-in-14 : goal.returns-in-14
+unfolding square_share_of of_bits of_int mul div
+returns-in-14 c = rw c.in-14.is
+
+pub returns-in-15 : goal.returns-in-15
+unfolding square_share_of of_bits of_int mul div
+returns-in-15 c = rw c.in-15.is
+
+pub returns-in-16 : goal.returns-in-16
+unfolding square_share_of of_bits of_int mul div
+returns-in-16 c = rw c.in-16.is
+
+pub returns-in-17 : goal.returns-in-17
+unfolding square_share_of of_bits of_int mul div
+returns-in-17 c = rw c.in-17.is
+
+pub returns-in-18 : goal.returns-in-18
+unfolding square_share_of of_bits of_int mul div
+returns-in-18 c = rw c.in-18.is
+
+pub returns-in_default : goal.returns-in_default
 unfolding square_share_of
-returns c = refl
+returns-in_default c = refl

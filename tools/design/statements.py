@@ -69,17 +69,21 @@ def main():
         if left:
             changed.append((key, left, [x for x in now[key] if x[2] not in old]))
     new = sorted(key for key in now if key not in before)
-    print(f"statements in proofs/: the same {same}, changed {sum(len(x[1]) for x in changed)}, gone {len(gone)}, new {len(new)}")
+    print(f"statements in proofs/: the same {same}, changed {sum(len(x[1]) for x in changed)}, gone {len(gone)}, new {len(new)}; below, those that other files may cite")
     for crate, name in gone:
         file, public, _ = before[crate, name][0]
-        print(f"gone: {crate} {file} {name}" + ("" if public else " (of its file alone)"))
+        if public:
+            print(f"gone: {crate} {file} {name}")
     for (crate, name), old, said in changed:
+        if not any(public for _, public, _ in old):
+            continue
         print(f"statement: {crate} {old[0][0]} {name}")
         for sign, those in (("-", old), ("+", said)):
             for _, _, text in those:
                 print(f"    {sign} {text}")
     for crate, name in new:
-        print(f"new: {crate} {now[crate, name][0][0]} {name}")
+        if now[crate, name][0][1]:
+            print(f"new: {crate} {now[crate, name][0][0]} {name}")
 
 
 main()

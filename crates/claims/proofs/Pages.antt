@@ -19,6 +19,7 @@ use Rattle.refusal.specs.declared.refusal.Refusal.TheVariants as refusals
 use Rattle.refusal.proofs.Distinct as refusal-numbers
 use Rattle.splitting.specs.Count.{total_of}
 use Rattle.call.proofs.FirstFacts.{is_one_of}
+use Rattle.frame.specs.declared.asking.Asking.{Asking}
 use Rattle.frame.specs.declared.reading.Record.{Record}
 use Rattle.frame.specs.Layout.{byte_width}
 use Rattle.frame.specs.Digits.{number_of}

@@ -6,6 +6,7 @@ ghost use Rattle.miller.specs.shapes.Operations.{Operations, real_operations, co
 use complex::number::Complex;
 use machine::magnitude::magnitude;
 
+// It names its operations, where std's Add, Sub and Mul would do for some: so a clause has one ghost member to name, `does`, and not one of each.
 pub trait Amount: Copy {
     ghost does: { Operations Self };
 

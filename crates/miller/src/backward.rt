@@ -42,6 +42,7 @@ fn step<T: Amount>(z: T, distance: f64, s: Steps<T>) -> Steps<T>
     }
 }
 
+// `start as f64` and not `f64::from(start)`, here and in trials.rt and search.rt: the two are one cast, and the second leaves the goal `returns` open.
 fn first<T: Amount>(start: u32) -> Steps<T>
     ensures { result ≡ first_of T.does start }
 {
@@ -70,6 +71,8 @@ pub fn real_steps(x: f64, distance: f64, start: u32) -> Steps<f64>
     all_steps(x, distance, start)
 }
 
+// The argument and |1/4 - fraction²| go apart through the steps: so the definitions of specs/Backward.antt have them, and `Run { z, distance }` would be taken
+// apart in each line.
 fn real_part(z: Complex, distance: f64, s: Steps<Complex>) -> f64
     ensures { result ≡ (complex_next z distance s).re }
 {
@@ -116,8 +119,8 @@ fn last_step(z: Complex, distance: f64, start: u32, s: Steps<Complex>) -> Steps<
 
 // Two steps a turn, so that no value is moved from one place to another. The tests between a real and an imaginary part keep the compiler
 // from pairing the two, which would put shuffles between one step and the next; what they find is no number in the end, whichever way it is
-// reached. The steps' own count bounds the loop: with `for _ in 0..start / 2` a turn takes 83 instructions on x86-64, and
-// tools/objects/loops.py allows 82.
+// reached. The steps' own count bounds the loop: with `for _ in 0..start / 2` a turn of two steps takes 83 instructions on x86-64, where
+// tools/objects/loops.py allows 41 a step. A turn of two calls of `step`, without the tests, has the shuffles: so real_part and with_real_part stand beside it.
 pub fn complex_steps(z: Complex, distance: f64, start: u32) -> Steps<Complex>
     ensures { result ≡ complex_steps z distance start }
 {

@@ -19,7 +19,8 @@ pub struct Miller {
     pub backward: u32,
 }
 
-// What the first seed is multiplied with for the second; nothing where one value alone is asked for.
+// What the first seed is multiplied with for the second; 0 where one value alone is asked for, and so is the second seed then: real_second and complex_second
+// of specs/Seeds.antt have the 0, and an Option would be read `ratio.map_or(T::from_real(0.0), |r| r.product(first))`.
 fn ratio<T: Amount>(alone: bool, z: T, fraction: f64, s: Steps<T>) -> T
     ensures { result ≡ ratio_unless T.does alone z fraction s }
 {
@@ -82,6 +83,7 @@ fn complex_seeds(z: Complex, order: Order, coefficient: Complex, alone: bool, st
     }
 }
 
+// The order, the coefficient and whether one value alone is asked for stand apart in seeds_from and seeds_at of specs/Seeds.antt, and so here.
 fn seeds_from(point: Point, order: Order, coefficient: Complex, alone: bool, start: u32) -> Miller
     ensures { result ≡ seeds_from point order coefficient alone start }
 {

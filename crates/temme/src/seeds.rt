@@ -19,8 +19,8 @@ pub struct Temme {
     pub terms: u32,
 }
 
-// The fraction and its square are the caller's numbers and the definitions' too, here and in the functions below. In one struct each use
-// would take them apart again, as in `gammas_at(Fraction { value: fraction, square: fraction_square })`.
+// The fraction and its square are the caller's numbers and the definitions' too, here, in the functions below, in gammas.rt and in shares.rt.
+// In one struct each use would take them apart again, as in `gammas_at(Fraction { value: fraction, square: fraction_square })`.
 pub fn seeds(
     z: Complex,
     modulus: f64,

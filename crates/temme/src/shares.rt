@@ -20,6 +20,7 @@ fn is_whole(fraction: f64, fraction_square: f64) -> bool
 
 // As arrays, `if terms <= 18 { return SHARES[terms as usize]; }`, the two prove the same; but Miller's backward loop, which the compiler puts into the same
 // function, then takes 83 instructions for two steps on x86-64, where tools/objects/loops.py allows 82 and the two matches leave it at 82.
+// `terms as f64` and not `f64::from(terms)`, here and in sum.rt: the two are one cast, and the second leaves the goal `returns` open.
 fn share(terms: u32) -> f64
     ensures { result ≡ share_of terms }
 {

@@ -1,8 +1,7 @@
 // The visit where its two highest orders are both seeded far from underflow, as nearly all are: their sums side by side, and the recurrence
-// below them, which has nothing left to test. Any other visit goes order by order. Promised: visit_of of specs/Visit.antt, record and cells;
+// below them, where the mark stays clear. Any other visit goes order by order. Promised: visit_of of specs/Visit.antt, record and cells;
 // the shapes on the way are those of specs/shapes/Pair.antt.
-ghost use Rattle.std.specs.Prelude.{◌≡◌, false, ◌+◌, ◌*◌, ◌%◌, ◌^◌, ◌<◌, drop};
-ghost use Rattle.series_step.specs.Recurred.{recurred_of};
+ghost use Rattle.std.specs.Prelude.{◌≡◌, ◌*◌, ◌%◌, ◌<◌, drop};
 ghost use Rattle.power_series.specs.Entries.{orders, Kept};
 ghost use Rattle.power_series.specs.Visit.{walk_of, visit_of};
 ghost use Rattle.power_series.specs.shapes.Pair.{entered_of, pair_of, Settled, Begun, walk_from};
@@ -11,10 +10,10 @@ use crate::entries::Entries;
 use crate::visit::{Standing, Visit, concluded, stepwise};
 use complex::number::Complex;
 use machine::constants::Machine;
-use series_step::descent::{Descent, Tally, start};
+use series_step::descent::{Descent, start};
 use series_step::leading::leading;
 use series_step::mark::marked;
-use series_step::recurred::{backward, unmarked};
+use series_step::recurred::recurred;
 use series_step::seed::kept;
 use series_step::setting::Setting;
 use series_sum::sum::Sum;
@@ -45,18 +44,6 @@ fn seeds(g: Setting, n: u32, first: Complex, second: Complex) -> Two<Descent>
     Two { higher, lower }
 }
 
-fn rung(g: Setting, k: u32, s: Descent) -> Descent
-    requires { (k + 1 < 2 ^ 32) × (s.counts.rungs + 1 < 2 ^ 32) × (s.near_underflow ≡ false) }
-    ensures { result ≡ recurred_of g k s }
-{
-    let c = s.counts;
-    let counts = Tally {
-        rungs: c.rungs + 1,
-        ..c
-    };
-    unmarked(backward(g, k, s.y_k_plus_2, s.y_k_plus_1), counts, s)
-}
-
 // Two orders at a time, so that a value stays in the registers in which it was worked out.
 fn two_by_two(g: Setting, most: usize, settled: Descent, out: &mut Entries) -> Standing
     requires { (most % 2 ≡ 0) × Settled (orders out.old) most settled }
@@ -67,9 +54,9 @@ fn two_by_two(g: Setting, most: usize, settled: Descent, out: &mut Entries) -> S
     let mut state = settled;
     for pair in (0..most / 2).rev() {
         let k = pair * 2;
-        let s = rung(g, (k + 1) as u32, state);
+        let s = recurred(g, (k + 1) as u32, state);
         out.put(k + 1, s.above);
-        state = rung(g, k as u32, s);
+        state = recurred(g, k as u32, s);
         out.put(k, state.above);
     }
     Standing { left: 0, state }
@@ -88,7 +75,7 @@ fn evened(g: Setting, left: usize, s: Descent, out: &mut Entries) -> Standing
         return Standing { left, state: s };
     }
     let k = left - 1;
-    let state = rung(g, k as u32, s);
+    let state = recurred(g, k as u32, s);
     out.put(k, state.above);
     Standing { left: k, state }
 }

@@ -33,12 +33,12 @@ loop-pair-init c =
       subst (λ (q : ℕ). Walking a.g (walk_from a.g n a.most a.settled (drop (a.most * 2) d)) d n q a.settled d) even w,
     )
 
-pub rung-state-requires : goal.rung-state-requires
-rung-state-requires c =
+pub recurred-state-requires : goal.recurred-state-requires
+recurred-state-requires c =
     let l = c.loop-pair in
     let few = c.args.out.now.few in
-    let t = settled _ l.invariant.1 ((l.pair - 1) * 2 + 1) (omega arith) c.rung-s.ensures in
-    (omega (arith, few, t.low), omega (arith, few, t.rungs), t.off)
+    let t = settled _ l.invariant.1 ((l.pair - 1) * 2 + 1) (omega arith) c.recurred-s.ensures in
+    (omega (arith, few, t.low), omega (arith, few, t.rungs))
 
 pub loop-pair-preserved : goal.loop-pair-preserved
 loop-pair-preserved c =
@@ -46,8 +46,8 @@ loop-pair-preserved c =
     let kept = l.invariant.0 in
     let ready = l.invariant.1 in
     let k = (l.pair - 1) * 2 in
-    let a = c.rung-s in
-    let b = c.rung-state in
+    let a = c.recurred-s in
+    let b = c.recurred-state in
     let p = c.put.ensures in
     let q = c.put-in-loop-pair.ensures in
     let t = settled _ ready (k + 1) (omega arith) a.ensures in

@@ -25,6 +25,7 @@ pub fn length_checked(length: usize) -> Result<(), Refusal>
 }
 
 #[tactic(auto, unfolding(crate::specs::Checks::verdict_of, crate::specs::Checks::verdict_from, crate::specs::Checks::finite_checks))]
+// The order and the two parts go one by one, here and below, as in finite_checks and limit_checks of specs/Checks.antt.
 pub fn finite_checked(v: f64, re: f64, im: f64) -> Result<(), Refusal>
     ensures { result ≡ verdict_of (finite_checks v re im) }
 {

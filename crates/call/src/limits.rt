@@ -1,5 +1,6 @@
 // The limits of a call's arguments, each by itself: what a buffer's length, an order and the parts of an argument may be.
-// From docs/SCOPE.md, Domain and refusals. Promised: each is its definition in specs/Limits.antt, for every value.
+// From docs/SCOPE.md, Domain and refusals. Promised: each is its definition in specs/Limits.antt, for every value; the order and the parts go one by one
+// into each, as they do there (are_finite v re im, size_inside re im).
 ghost use Rattle.std.specs.Prelude.{◌≡◌};
 ghost use Rattle.call.specs.Limits.{normalised_of, length_inside, are_finite, order_inside, sign_inside, part_inside, size_inside, is_zero};
 

@@ -18,7 +18,7 @@ ghost use Rattle.rounding.specs.Round.{round_of};
 ghost use Rattle.gamma_ln.specs.LogGamma.{log_gamma_of};
 ghost use Rattle.call.specs.Checks.{number_given};
 ghost use Rattle.frame.specs.Over.{offered};
-ghost use Rattle.sweeping.specs.Sweep.{swept_of, frames_of};
+ghost use Rattle.sweeping.specs.Sweep.{swept_in, swept_of, frames_of};
 ghost use Rattle.page.specs.Joining.{join_number, join_page, line_number, line_page};
 ghost use Rattle.capi.specs.Outcome.{outcome_of, is_scaled, answer_of, request_of, sweep_of};
 ghost use Rattle.bessel.specs.I.{i_outcome};
@@ -113,20 +113,27 @@ pub struct LogGamma {
     pub number: u32,
 }
 
-pub fn lichenoar_log_gamma(x: f64) -> LogGamma
-    ensures { result ≡ outcome_of (log_gamma_of x) }
-{
-    let outcome = log_gamma(x);
-    match outcome {
-        Ok(value) => LogGamma { value, number: 0 },
-        Err(refusal) => LogGamma {
-            value: not_a_number(),
-            number: refusal.number(),
-        },
+impl From<Result<f64, Refusal>> for LogGamma {
+    ghost from_gives = { λ a r. r ≡ outcome_of a };
+
+    fn from(a: Result<f64, Refusal>) -> LogGamma {
+        match a {
+            Ok(value) => LogGamma { value, number: 0 },
+            Err(refusal) => LogGamma {
+                value: not_a_number(),
+                number: refusal.number(),
+            },
+        }
     }
 }
 
-// What a call returns, as programs in other languages have its layout: it does not change. The library's own record may grow.
+pub fn lichenoar_log_gamma(x: f64) -> LogGamma
+    ensures { result ≡ outcome_of (log_gamma_of x) }
+{
+    LogGamma::from(log_gamma(x))
+}
+
+// What a call returns, as programs in other languages have its layout: it does not change. The library's own counts may grow.
 #[repr(C)]
 #[derive(Drop)]
 pub struct Answer {
@@ -184,6 +191,20 @@ pub struct Sweep {
     pub needed: u32,
 }
 
+impl From<Result<u32, Refusal>> for Sweep {
+    ghost from_gives = { λ a r. r ≡ sweep_of (swept_in a) };
+
+    fn from(a: Result<u32, Refusal>) -> Sweep {
+        match a {
+            Ok(needed) => Sweep { number: 0, needed },
+            Err(r) => Sweep {
+                number: r.number(),
+                needed: 0,
+            },
+        }
+    }
+}
+
 // The frames of an even sweep, a newline behind each, over the first of the lent bytes. Refused, or without room for all of them, it writes nothing.
 pub fn lichenoar_sweep(
     kind: u8,
@@ -200,11 +221,11 @@ pub fn lichenoar_sweep(
     ensures { (result ≡ sweep_of (swept_of (request_of kind scaling n v first_re first_im last_re last_im steps)))
         × (out.new ≡ offered (frames_of (request_of kind scaling n v first_re first_im last_re last_im steps)) out.old) }
 {
-    let swept = sweeping::sweep::sweep(
+    Sweep::from(sweeping::sweep::sweep(
         Request {
-            kind: kind as u64,
-            scaling: scaling as u64,
-            count: n as u64,
+            kind: u64::from(kind),
+            scaling: u64::from(scaling),
+            count: u64::from(n),
             v,
             first_re,
             first_im,
@@ -213,14 +234,7 @@ pub fn lichenoar_sweep(
             steps,
         },
         out,
-    );
-    match swept {
-        Ok(needed) => Sweep { number: 0, needed },
-        Err(r) => Sweep {
-            number: r.number(),
-            needed: 0,
-        },
-    }
+    ))
 }
 
 #[tactic(auto, unfolding(call::specs::Checks::number_given))]

@@ -1,12 +1,12 @@
 -- Reading and writing an answer line are inverse: the line of an answer and its cells reads as that answer and, cell by cell, as those
 -- bits; and a line that is read is the line of what was read. Assumes nothing.
 use mathlib.Core.Path.{◌≡◌, refl, sym, ap, ◌∙◌, subst}
-use mathlib.Core.Bool.{Bool, true, false}
+use mathlib.Core.Bool.{Bool, true, false, cond}
 use mathlib.Core.List.{List, [], ◌∷◌, ◌++◌, map, append_assoc, append-nil}
 use Prim.Native.Nat.{ℕ, zero, suc, ◌+◌, ◌*◌, ◌-◌, ◌/◌, ◌^◌, ◌≤◌, ◌<◌}
 use native.Mathlib.Nat.{le_refl, le_of_lt}
 use native.Mathlib.Omega.{arith}
-use borrow.Author.Tests.{eqb-true, eqb-false}
+use borrow.Author.Tests.{eqb-true, eqb-false, eq-eqb, ne_eqb}
 use lib.Dec.{T, eqb}
 use lib.Ieee.{Float, binary64, fits, of_bits, to_bits}
 use lib.Ieee.Bits.{of_bits-to_bits, to_bits-lt}
@@ -17,7 +17,7 @@ use Rattle.frame.specs.declared.reading.Record.{Record}
 use Rattle.std.proofs.Common.{Some}
 use Rattle.frame.specs.Layout.{byte_width, count_width, float_width, pair_width, number_at, zeros_at, longest_sum_at, rungs_at, backward_at, record_length}
 use Rattle.frame.specs.Digits.{are_digits, spelled_of, field_of}
-use Rattle.frame.specs.Writing.{twos_complement, spelled_record, record_of, spelled_patterns, line_of}
+use Rattle.frame.specs.Writing.{twos_complement, spelled_record, record_of, spelled_patterns, cells_of, line_of}
 use Rattle.frame.specs.Reading.{signed_word, record_at, rest_inside, reading_of, cell_bits_of, bits_read, cells_read, RecordFits, said_of, line_again}
 use Rattle.frame.proofs.DigitFacts.{digits_append}
 use Rattle.frame.proofs.SpellFacts.{spelled-length}
@@ -149,6 +149,37 @@ module _ (r : Record) (bits : List ℕ) where
           ap (λ (l : List ℕ). l ++ (cell_bits_of n (line_again r bits) ∷ [])) (first n (omega arith))
           ∙ ap (λ (b : ℕ). take n bits ++ (b ∷ [])) (bits-again n 0 k (h n k))
           ∙ sym (take-suc bits n 0 k)
+
+-- ---- the same of the numbers of any record and cells: the cells follow the number 0 alone
+module _ (r : Record) (cells : List Float) where
+  abbrev pub written_of : List ℕ
+  written_of = spelled_record r.number r.zeros r.longest_sum r.rungs r.backward ++ cond (eqb r.number 0) (cells_of cells) []
+
+  abbrev patterns : List ℕ
+  patterns = map (to_bits binary64) cells
+
+  numbers-answered : r.number ≡ 0 → written_of ≡ line_again r patterns
+  unfolding line_again
+  numbers-answered e = simp (eq-eqb r.number 0 e, patterns-cells cells)
+
+  numbers-refused : (r.number ≡ 0 → ⊥) → written_of ≡ line_again r []
+  unfolding line_again spelled_patterns
+  numbers-refused h = simp (ne_eqb r.number 0 h)
+
+  pub answered-numbers-read : RecordFits r → r.number ≡ 0 → length cells ≡ r.pairs * 2 → reading_of written_of ≡ Some r
+  answered-numbers-read h e l = ap reading_of (numbers-answered e) ∙ record-read r patterns h (length-map cells (to_bits binary64) ∙ l)
+
+  pub refused-numbers-read : RecordFits r → (r.number ≡ 0 → ⊥) → reading_of written_of ≡ Some r
+  refused-numbers-read h e = ap reading_of (numbers-refused e) ∙ record-read r [] h (sym (ap (λ (n : ℕ). n * 2) (h.refused e)))
+
+  pub cell-of-numbers-read :
+      (i : ℕ) (z : Float) → r.number ≡ 0 → i < length cells → T (fits binary64 (get_or cells i z)) → cell_bits_of i written_of ≡ to_bits binary64 (get_or cells i z)
+  cell-of-numbers-read i z e h t =
+      let same : get_or patterns i (to_bits binary64 z) ≡ to_bits binary64 (get_or cells i z) = get_or-map (to_bits binary64) cells i z in
+      ap (cell_bits_of i) (numbers-answered e)
+      ∙ bits-again r patterns i (to_bits binary64 z) (subst (λ (n : ℕ). i < n) (sym (length-map cells (to_bits binary64))) h)
+      (subst (λ (n : ℕ). n < 2 ^ 64) (sym same) (to_bits-lt binary64 (get_or cells i z) t))
+      ∙ same
 
 -- ---- the same of an answer and its cells
 module _ (a : Answer) (cells : List Float) where

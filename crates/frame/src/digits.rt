@@ -1,5 +1,5 @@
 // Upper-case hexadecimal: digits read to a number, and a number written as digits. Promised: specs/Digits.antt.
-// No branch waits for a digit, and there is no table: an array would be stored anew in each call.
+// Digits are compared and counted with, and not looked up: a table, as an array, would be stored anew in each call.
 ghost use Rattle.std.specs.Prelude.{◌≡◌, true, ◌+◌, ◌≤◌, ◌<◌, length, IfSome, is_some};
 ghost use Rattle.frame.specs.Digits.{is_digit, are_digits, worth_of, number_of, field_of, digit_of, spelled_of};
 ghost use Rattle.frame.specs.Over.{over};
@@ -42,7 +42,8 @@ pub fn number(digits: &[u8]) -> u64
     n
 }
 
-// A line that is known to be of digits alone.
+// A line that is known to be of digits alone, inside this crate. The public functions that ask for one (number, read_digits, cell_bits, read_cells;
+// add_digits of crate page) take its bytes and the clause, as their contracts do not change: a caller proves it where it is, and makes no other value.
 #[derive(Clone, Copy)]
 pub(crate) struct Digits<'a> {
     pub(crate) line: &'a [u8],
@@ -89,7 +90,8 @@ fn digit(d: u64) -> u8
     55 + (d as u8)
 }
 
-// The last `width` digits of n, from the place `at` on.
+// The last `width` digits of n, from the place `at` on. The buffer and the place go apart, here and in write_asking and write_cells: each promises
+// `over at ..` of specs/Over.antt, which has a place and the whole buffer.
 pub fn spell(n: u64, width: usize, out: &mut [u8], at: usize)
     requires { at + width ≤ length out.old }
     ensures { out.new ≡ over at (spelled_of width n) out.old }

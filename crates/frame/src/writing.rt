@@ -68,12 +68,10 @@ pub fn write_cells(cells: &[f64], out: &mut [u8], at: usize) -> usize
     ensures { (result ≡ at + length cells.now * float_width)
         × (out.new ≡ over at (cells_of cells.now) out.old) }
 {
-    let mut place = at;
-    for &x in cells {
-        spell(pattern(x), FLOAT_WIDTH, out, place);
-        place += FLOAT_WIDTH;
+    for (i, &x) in cells.iter().enumerate() {
+        spell(pattern(x), FLOAT_WIDTH, out, at + i * FLOAT_WIDTH);
     }
-    place
+    at + cells.len() * FLOAT_WIDTH
 }
 
 pub fn write_answer(answer: Answer, cells: &[f64], out: &mut [u8]) -> usize

@@ -91,6 +91,7 @@ pub fn add_digits(page: &mut [u64; 58], line: &[u8]) -> Result<(), Refusal>
 fn join_cells(into: &mut [u64; 58], from: &[u64; 58])
     ensures { into.new ≡ joined_cells into.old from.now }
 {
+    // With `into.iter_mut().zip(from)` the goal `returns` stayed open: the loop then has the pairs it yielded in place of the cells and their index.
     for (i, cell) in into.iter_mut().enumerate() {
         *cell = cell.saturating_add(from[i]);
     }

@@ -11,6 +11,7 @@ use call::limits::{are_finite, order_inside, sign_inside, size_inside};
 use frame::asking::asked;
 use refusal::refusal::Refusal;
 
+// Each of the two ranges is a definition by itself, steps_inside and count_inside of specs/Checks.antt, as sweep_checks lists them.
 const MOST_STEPS: u32 = 4096;
 
 const MOST_ENTRIES: u64 = 512;

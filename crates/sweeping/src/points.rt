@@ -18,7 +18,7 @@ fn step(first: f64, last: f64, steps: u32) -> f64
     requires { 1 ≤ steps }
     ensures { result ≡ step_of first last steps }
 {
-    (last - first) / (steps - 1) as f64
+    (last - first) / f64::from(steps - 1)
 }
 
 // With the step worked out before, once for all points.
@@ -28,7 +28,7 @@ fn part(first: f64, step: f64, steps: u32, j: u32) -> f64
     if steps == 1 {
         return first;
     }
-    first + j as f64 * step
+    first + f64::from(j) * step
 }
 
 pub fn fields_with(r: Request, re: f64, im: f64) -> Fields
@@ -50,6 +50,7 @@ pub fn write_frames(r: Request, out: &mut [u8])
 {
     let step_re = step(r.first_re, r.last_re, r.steps);
     let step_im = step(r.first_im, r.last_im, r.steps);
+    // The place goes along with j: `let at = j as usize * LINE_LENGTH;` in the loop converts and multiplies at each point, and is no plainer.
     let mut at = 0;
     for j in 0..r.steps {
         let re = part(r.first_re, step_re, r.steps, j);

@@ -39,18 +39,14 @@ pub fn normalised_request(r: Request) -> Request
     ensures { result ≡ normalised_request r }
 {
     Request {
-        kind: r.kind,
-        scaling: r.scaling,
-        count: r.count,
         v: normalised(r.v),
         first_re: normalised(r.first_re),
-        first_im: r.first_im,
         last_re: normalised(r.last_re),
-        last_im: r.last_im,
-        steps: r.steps,
+        ..r
     }
 }
 
+// Whoever calls has looked at `rest`: request_from of specs/Line.antt is of bytes, and `number` asks that they are digits.
 fn request_from(f: Fields, rest: &[u8]) -> Request
     requires { (length rest.now ≡ rest_length) × (are_digits rest.now ≡ true) }
     ensures { result ≡ request_from f rest.now }

@@ -9,4 +9,4 @@ returns-then-steps-eq1 c = simp (eq-eqb _ _ c.if-steps-eq1.true)
 
 pub returns : goal.returns
 unfolding part_with
-returns c = simp (ne_eqb _ _ c.if-steps-eq1.false)
+returns c = simp (ne_eqb _ _ c.if-steps-eq1.false, c.from.ensures)

@@ -1,6 +1,6 @@
 // A chunk's answers, handed to the writer. No contract of the kit says what a write was given, so `send` demands that it is given exactly
 // the answers that the bytes taken complete, and what is counted are bytes that the writer took. Promised: AfterBytes of specs/Turn.antt.
-ghost use Rattle.std.specs.Prelude.{◌≡◌, ◌<◌, length, IfSome};
+ghost use Rattle.std.specs.Prelude.{◌≡◌, ◌≤◌, ◌<◌, length, IfSome};
 ghost use Rattle.splitting.specs.Cut.{part_of};
 ghost use Rattle.splitting.specs.declared.state.State.TheVariants.{Going};
 ghost use Rattle.answering.specs.Feed.{owed_of};
@@ -12,12 +12,16 @@ use splitting::cut::Line;
 use splitting::state::State;
 use splitting::telling::STDOUT_FILENO;
 
-// The one place where answers leave the program: whether the writer took them. What was held before, and the chunk from one place to another, are
-// there for the demand.
-fn send(answers: &[u8], before: &Held, chunk: &[u8], from: usize, at: usize) -> bool
+// The one place where answers leave the program: how many bytes of them the writer took. What was held before, and the chunk from one place to
+// another, are there for the demand.
+fn send(answers: &[u8], before: &Held, chunk: &[u8], from: usize, at: usize) -> usize
     requires { answers.now ≡ owed_of before.now (part_of chunk.now from at) }
+    ensures { result ≤ length answers.now }
 {
-    io::write_all(STDOUT_FILENO, answers)
+    if io::write_all(STDOUT_FILENO, answers) {
+        return answers.len();
+    }
+    0
 }
 
 // The two buffers, and how far the program is.
@@ -53,10 +57,11 @@ impl Answerer {
         self.buffers.out.clear();
         let at = self.buffers.advance(chunk, from);
         let answers = self.buffers.out.written();
-        if !send(answers, &before, chunk, from, at) {
+        let written = send(answers, &before, chunk, from, at);
+        if written < answers.len() {
             return None;
         }
-        self.turn.sent = tally(self.turn.sent, answers.len());
+        self.turn.sent = tally(self.turn.sent, written);
         Some(at)
     }
 

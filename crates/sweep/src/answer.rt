@@ -15,21 +15,29 @@ use splitting::state::State;
 use splitting::telling::{STDERR_FILENO, STDOUT_FILENO};
 use sweeping::line::sweep_line;
 
-// The one place where frames leave the program: whether the writer took them. The line is there for the demand.
-fn send(frames: &[u8], line: &[u8]) -> bool
+// The one place where frames leave the program: how many bytes of them the writer took. The line is there for the demand.
+fn send(frames: &[u8], line: &[u8]) -> usize
     requires { frames.now ≡ line_bytes line.now }
+    ensures { result ≤ length frames.now }
 {
-    io::write_all(STDOUT_FILENO, frames)
+    if io::write_all(STDOUT_FILENO, frames) {
+        return frames.len();
+    }
+    0
 }
 
-// The one place where a refusal is told: whether the writer took it. The line, and how many requests came before, are there for the demand.
-fn say(text: &[u8], k: u64, before: u64, number: u32, line: &[u8]) -> bool
+// The one place where a refusal is told: 1 where the writer took it. The line, and how many requests came before, are there for the demand.
+fn say(text: &[u8], k: u64, before: u64, number: u32, line: &[u8]) -> u64
     requires { Told k number text.now
         × (k ≡ counted (before + 1))
         × (number ≡ (line_swept line.now).number)
         × (0 < number) }
+    ensures { result ≤ 1 }
 {
-    io::write_all(STDERR_FILENO, text)
+    if io::write_all(STDERR_FILENO, text) {
+        return 1;
+    }
+    0
 }
 
 fn refuse(refusal: Refusal, line: &[u8], turn: Turn) -> Turn
@@ -39,7 +47,8 @@ fn refuse(refusal: Refusal, line: &[u8], turn: Turn) -> Turn
     let k = count(turn.requests, 1);
     let number = refusal.number();
     let text = refusal_text(k, u64::from(number));
-    if !say(text.as_bytes(), k, turn.requests, number, line) {
+    let told = say(text.as_bytes(), k, turn.requests, number, line);
+    if told < 1 {
         return Turn {
             state: State::Unwritten,
             ..turn
@@ -47,7 +56,7 @@ fn refuse(refusal: Refusal, line: &[u8], turn: Turn) -> Turn
     }
     Turn {
         requests: k,
-        refused: count(turn.refused, 1),
+        refused: count(turn.refused, told),
         state: State::Going,
         ..turn
     }
@@ -57,7 +66,8 @@ fn accept(frames: &[u8], line: &[u8], turn: Turn) -> Turn
     requires { (frames.now ≡ line_bytes line.now) × ((line_swept line.now).number ≡ 0) }
     ensures { AfterLine line.now turn result }
 {
-    if !send(frames, line) {
+    let written = send(frames, line);
+    if written < frames.len() {
         return Turn {
             state: State::Unwritten,
             ..turn
@@ -65,7 +75,7 @@ fn accept(frames: &[u8], line: &[u8], turn: Turn) -> Turn
     }
     Turn {
         requests: count(turn.requests, 1),
-        sent: count(turn.sent, frames.len() as u64),
+        sent: count(turn.sent, written as u64),
         state: State::Going,
         ..turn
     }

@@ -13,10 +13,15 @@ pub returns : goal.returns
 returns c =
     let a = c.args in
     let some = never-zero a.refusal in
-    inl (record { going = refl; grown = grown-refused a.line.now a.turn _ 1 (omega (arith, c.requires)) refl c.count-k.ensures c.count.ensures refl })
+    inl (record {
+      going = refl;
+      grown =
+          grown-refused a.line.now a.turn _ c.say-told.result (omega (arith, c.requires)) (omega (arith, c.if-told-lt1.false, c.say-told.ensures)) c.count-k.ensures c.count.ensures
+          refl;
+    })
 
-pub say-requires : goal.say-requires
-say-requires c =
+pub say-told-requires : goal.say-told-requires
+say-told-requires c =
     let k = c.count-k.result in
     let n = c.number-number in (
       subst (λ (l : List ℕ). Told k n.result l) (sym c.as_bytes.ensures)

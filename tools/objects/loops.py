@@ -22,20 +22,18 @@ TURNS = {
         ("a term of I, one sum of two", (32, 24, 4, 0, 0), 2, 38, 1),
         ("a term of I, a sum alone", (16, 12, 2, 0, 0), 1, 39, 1),
         ("a step of I's recurrence", (12, 10, 0, 2, 4), 2, 17, 1),
-        ("a cell judged, K and I", (8, 0, 0, 0, 0), 8, 1.3, 2),
+        ("a cell judged, K and I", (8, 0, 0, 0, 0), 8, 1.1, 1),
     ],
     "x86-64": [
-        # the loop of four rungs and that of one cross
-        ("a rung of the climb", (30, 27, 0, 6, 0), 5, 39, 1),
+        ("a rung of the climb", (24, 20, 0, 4, 0), 4, 31, 1),
         ("a rung of the fill", (24, 20, 0, 4, 8), 4, 32, 1),
         ("a backward step of Miller's", (22, 24, 2, 0, 0), 2, 41, 1),
-        ("a term of Temme's, order whole", (27, 16, 2, 1, 0), 1, 70, 1),
+        ("a term of Temme's, order whole", (27, 16, 2, 1, 0), 1, 72, 1),
         ("a term of Temme's", (27, 19, 4, 1, 0), 1, 82, 1),
         ("a term of I, one sum of two", (32, 28, 4, 0, 0), 2, 50, 1),
         ("a term of I, a sum alone", (16, 12, 2, 0, 0), 1, 55, 1),
         ("a step of I's recurrence", (12, 10, 0, 2, 4), 2, 22, 1),
-        ("a cell judged, K", (16, 0, 0, 0, 0), 16, 1.25, 1),
-        ("a cell judged, I", (8, 0, 0, 0, 0), 8, 1.6, 1),
+        ("a cell judged, K and I", (16, 0, 0, 0, 0), 16, 1.25, 1),
     ],
 }
 FAR = 2

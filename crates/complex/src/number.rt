@@ -3,7 +3,7 @@
 // operators.rt. The nine names beside the signs (plus, minus, opposite, product, quotient, times_real, over_real, plus_real, minus_real) stay:
 // docs/TRACE.md (A1) states that each method ensures its definition, and quotes `product` and `quotient` as they stand here.
 ghost use Rattle.std.specs.Prelude.{◌≡◌};
-ghost use Rattle.complex.specs.Arithmetic.{zero_pair, plus_of, minus_of, opposite_of, conjugate_of, product_of, quotient_of};
+ghost use Rattle.complex.specs.Arithmetic.{plus_of, minus_of, opposite_of, conjugate_of, product_of, quotient_of};
 ghost use Rattle.complex.specs.Arithmetic.{times_real, over_real, plus_real, minus_real, real_over, norm_square_of};
 
 #[derive(Clone, Copy)]
@@ -93,11 +93,4 @@ pub fn real_over(a: f64, z: Complex) -> Complex
     ensures { result ≡ real_over a z }
 {
     Complex { re: a, im: 0.0 } / z
-}
-
-// Complex::ZERO as a function, with the name and the clause of the definition: `ended` of recurrence/src/first.rt calls it.
-pub fn zero_pair() -> Complex
-    ensures { result ≡ zero_pair }
-{
-    Complex::ZERO
 }

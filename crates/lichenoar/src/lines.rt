@@ -22,7 +22,7 @@ const MOST_ROOM: usize = 16403;
 // A line as far as it is held: one byte more than a frame has.
 pub type Held = Line<57>;
 
-// Answer lines, each with its newline, one behind the other.
+// Answer lines, each with its newline, one behind the other. A type of its own beside splitting's Line, for the reason given there.
 #[derive(Drop)]
 pub struct Answers {
     bytes: [u8; 65536],

@@ -9,7 +9,8 @@ use splitting::cut::NEWLINE;
 use splitting::serving::Server;
 use splitting::state::{State, is_over};
 
-// The last line may lack its newline: it is answered as if it had one.
+// The last line may lack its newline: it is answered as if it had one. One shape with sweep's `close`: a common `close(self, |a| a.consume(&[NEWLINE]))`
+// would need each program's AtEnd, turn and line as ghost parameters, and a law that ties them, to share two tests.
 fn close(answerer: &mut Answerer)
     requires { answerer.old.turn.state ≡ Going }
     ensures { AtEnd answerer.old.buffers.line answerer.old.turn.sent answerer.new.turn }

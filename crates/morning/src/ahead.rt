@@ -8,7 +8,7 @@ use frame::layout::{LONGEST_LINE, PAIR_WIDTH, RECORD_LENGTH};
 use splitting::cut::NEWLINE;
 
 // Pair by pair, behind a record. `for n in (RECORD_LENGTH..=LONGEST_LINE).step_by(PAIR_WIDTH)` would be no plainer: it needs a test that there is
-// a byte at n in the place of the loop's, and the test that n is the last still, since else a pair behind the longest line would be looked at.
+// a byte at n in the place of the loop's, and, only so that no pair behind the longest line is looked at for nothing, the test that n is the last.
 fn pairs_ahead(chunk: &[u8], at: usize) -> Option<usize>
     requires { StartsWell chunk.now at }
     ensures { IfSome result (LineAhead chunk.now at) }

@@ -11,7 +11,8 @@ use crate::turn::Turn;
 use splitting::state::{State, status};
 use splitting::telling::{STDERR_FILENO, STDOUT_FILENO, loss};
 
-// The one place where a page leaves the program: that of the whole input. How it ended is there for the demand.
+// The one place where a page leaves the program: that of the whole input. How it ended is there for the demand. The two go apart, here and below,
+// since Served of specs/Turn.antt takes them so, and with it what docs/TRACE.md holds that is asked here.
 fn send(text: &[u8], page: &[u64; 58], last: Turn) -> State
     requires { (text.now ≡ page_text page.now) × (last.state ≡ Whole) × Served page.now last }
 {

@@ -14,7 +14,9 @@ pub struct Piece {
     pub ended: bool,
 }
 
-// What is held of a line: its first bytes, at most `N` of them.
+// What is held of a line: its first bytes, at most `N` of them. Text of crate wording and Answers of lichenoar keep their bytes and clauses alike, and
+// are types of their own: a line drops a byte without room, a text asks for room, answers lend theirs to a writer. A `Bytes<N>` within each of them
+// would share the ends alone, and each would hand them on: `self.bytes.clear()` in the place of `self.held = 0`, `self.bytes.held()` of a slice.
 #[derive(Drop)]
 pub struct Line<const N: usize> {
     bytes: [u8; N],
@@ -49,7 +51,8 @@ impl<const N: usize> Line<N> {
         &self.bytes[..self.held]
     }
 
-    // The same line once more.
+    // The same line once more. A derived `clone` would say only that the fields are clones of each other: whoever calls it would have to show that the
+    // bytes are the same, which is said here.
     pub fn copied(&self) -> Self
         ensures { result ≡ self.now }
     {
@@ -81,7 +84,8 @@ impl<const N: usize> Line<N> {
         }
     }
 
-    // Until the line has come to its end, or the chunk has.
+    // Until the line has come to its end, or the chunk has. The place goes beside the chunk and is below its length, here and in the programs: it is of
+    // a chunk and a place that the definitions speak: part_of of specs/Cut.antt, lichenoar's frame_ahead and Delivered, morning's LineAhead.
     pub fn take(&mut self, chunk: &[u8], from: usize) -> Piece
         requires { from < length chunk.now }
         ensures { (from < result.at)

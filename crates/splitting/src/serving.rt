@@ -9,6 +9,8 @@ ghost use Rattle.splitting.specs.Serving.{OneRead, Onward};
 use crate::state::{State, is_over};
 use std::io::{Error, Read, Stdin};
 
+// That it goes on is a clause, here and in the programs' functions beneath, and no type `Going` beside a type `Over`: a change of type would hand a
+// server on by value, `fn receive(self, bytes: &[u8]) -> Result<Self, Over>`, with its buffers (sweep's have more than 230,000 bytes) at each read.
 pub trait Server {
     // whether it goes on, or how it ended
     ghost state_of: { Self → State };

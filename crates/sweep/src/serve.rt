@@ -41,7 +41,8 @@ impl Sweeper {
         self.turn
     }
 
-    // A line that has come to its end is answered; of any other the held bytes wait.
+    // A line that has come to its end is answered; of any other the held bytes wait. Morning's `settle` and `consume` have this shape and no test of the
+    // state between lines: no line of its ends the run. One for both, `consume(chunk, |line| ..)`, would test here what cannot be there.
     fn settle(&mut self, ended: bool)
         requires { self.old.turn.state ≡ Going }
         ensures { Settled ended self.old.line self.old.turn self.new.line self.new.turn }

@@ -6,6 +6,7 @@ ghost use Rattle.wording.specs.Decimal.{Numbered};
 
 use std::marker::Model;
 
+// A type of its own beside splitting's Line, for the reason given there: what is put behind is asked to have room, and never dropped.
 #[derive(Drop)]
 pub struct Text<const N: usize> {
     bytes: [u8; N],

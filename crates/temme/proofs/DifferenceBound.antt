@@ -16,7 +16,8 @@ use Rattle.laws.proofs.First.{first, passed}
 use Rattle.laws.proofs.Sign.{mul-neg-neg}
 use Rattle.machine.specs.Constants.{tolerance}
 use Rattle.machine.specs.Magnitude.{magnitude_of}
-use Rattle.temme.specs.Difference.{Partial, difference_coefficients, fraction_square, start_series, with_term, series_of, SeriesEnds}
+use Rattle.temme.specs.declared.difference.Partial.{Partial}
+use Rattle.temme.specs.Difference.{difference_coefficients, fraction_square, start_series, with_term, series_of, SeriesEnds}
 use Rattle.machine.specs.Small.{one}
 use Rattle.temme.proofs.Counted.{after-count, run-counted}
 use Rattle.temme.proofs.TemmeBound.{mul-up-round}

@@ -1,7 +1,7 @@
 -- Temme's difference series for (1/Γ(1-ν) - 1/Γ(1+ν)) / 2ν: eight coefficients, each times a power of w = ν², summed up to the first term
 -- below 2^-52 in magnitude. ZBKNU, 'SERIES FOR F0', labels 20 and 30; DLMF 5.7.1. `compute_small_z_power_series` of
 -- src/amos/right_half_plane.rs, which tests the first term too. Definitions only.
-use Rattle.std.specs.Prelude.{◌≡◌, ℕ, Bool, true, false, cond, List, [], ◌∷◌, ◌+◌, ◌≤◌, get_or, Float}
+use Rattle.std.specs.Prelude.{◌≡◌, true, false, cond, List, [], ◌∷◌, ◌+◌, ◌≤◌, get_or, Float}
 use Rattle.std.specs.Float.{nan, binary64}
 use Rattle.std.specs.Float.Ieee.{of_bits, neg, lt}
 use Rattle.laws.specs.Operators.{◌⊕◌, ◌⊗◌}
@@ -9,6 +9,7 @@ use Rattle.laws.specs.Run.{run}
 use Rattle.machine.specs.Constants.{tolerance}
 use Rattle.machine.specs.Small.{nothing, one}
 use Rattle.machine.specs.Magnitude.{magnitude_of}
+use Rattle.temme.specs.declared.difference.Partial.{Partial}
 
 -- ZBKNU's CC(1) to CC(8), the coefficients c(2), c(4) .. c(16) of 1/Γ in DLMF 5.7.1: 0.5772156649015329, -0.04200263503409524,
 -- -0.04219773455554433, 0.0072189432466631, -0.00021524167411495098, -2.013485478078824e-5, 1.133027231981696e-6, 6.116095104481416e-9
@@ -27,13 +28,6 @@ difference_coefficients =
 -- ZBKNU's DNU2: ν², and 0 where |ν| is at most 2^-52
 unfoldable pub fraction_square : Float → Float
 fraction_square v = cond (lt tolerance (magnitude_of v)) (v ⊗ v) nothing
-
--- a sum under way: the power of its next term, whether the last term was below 2^-52, and how many terms are in it
-pub record Partial : Type 0 where
-  pub power : Float
-  pub sum : Float
-  pub done : Bool
-  pub count : ℕ
 
 unfoldable pub start_series : Partial
 start_series = record { power = one; sum = nothing; done = false; count = 0 }

@@ -37,7 +37,8 @@ fn is_met(test: f64, i: u32, p: f64) -> bool
     test < magnitude(p) * (i + 1) as f64
 }
 
-// One more than the first trial that meets the test. The loop breaks with it: that form is asked for by name (docs/TRACE.md, T3), and a `for` breaks with nothing.
+// One more than the first trial that meets the test. The loop breaks with it: the scope asks for that form (docs/TRACE.md, T3), and a `for` breaks with
+// nothing.
 pub fn trial_index(modulus: f64, square: f64, test: f64) -> Option<u32>
     ensures { result ≡ trial_index modulus square test }
 {

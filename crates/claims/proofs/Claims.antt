@@ -62,10 +62,10 @@ use Rattle.frame.specs.declared.reading.Record as readings
 use Rattle.frame.specs.Layout.{byte_width, record_length, asking_length}
 use Rattle.frame.specs.Digits.{number_of}
 use Rattle.frame.specs.Asking.{framed_of, parsed_of, asking_line_of, FieldsFit, asked_of, asked_in}
-use Rattle.frame.specs.Writing.{line_of}
+use Rattle.frame.specs.Writing.{line_of, written_of}
 use Rattle.frame.specs.Reading.{reading_of, cell_bits_of, bits_read, RecordFits, said_of, line_again}
 use Rattle.frame.proofs.AskingInverse.{asking-read, asking-again}
-use Rattle.frame.proofs.AnswerInverse.{answered-read, refused-read, cell-read, line-again}
+use Rattle.frame.proofs.AnswerInverse.{answered-read, refused-read, cell-read, answered-numbers-read, refused-numbers-read, cell-of-numbers-read, line-again}
 use Rattle.answering.specs.Called.{called_of, called_as, outcome_line}
 use Rattle.answering.specs.Line.{outcome_of, answer_line_of, bytes_into}
 use Rattle.answering.specs.Fields.{pairs_of}
@@ -369,10 +369,26 @@ pub record OfFrames : Type 0 where
   pub cell-read :
       (a : Answer) (cells : List Float) (at : ℕ) (z : Float) → number_in a ≡ 0 → at < length-of cells → T (fits binary64 (get_or cells at z)) →
       cell_bits_of at (line_of a cells) ≡ to_bits binary64 (get_or cells at z)
+  -- the same of any five numbers, whether or not they are an answer's: a number that is no refusal's, counts beside another number than 0
+  pub answered-numbers-read : (r : readings.Record) (cells : List Float) → RecordFits r → r.number ≡ 0 → length-of cells ≡ r.pairs * 2 → reading_of (written_of r cells) ≡ Some r
+  pub refused-numbers-read : (r : readings.Record) (cells : List Float) → RecordFits r → (r.number ≡ 0 → ⊥) → reading_of (written_of r cells) ≡ Some r
+  pub cell-of-numbers-read :
+      (r : readings.Record) (cells : List Float) (at : ℕ) (z : Float) → r.number ≡ 0 → at < length-of cells → T (fits binary64 (get_or cells at z)) →
+      cell_bits_of at (written_of r cells) ≡ to_bits binary64 (get_or cells at z)
   pub answer-again : (line : List ℕ) (r : readings.Record) → reading_of line ≡ Some r → line_again r (bits_read (r.pairs * 2) line) ≡ line
 
 pub of-frames : OfFrames
-of-frames = record { asking-read = asking-read; asking-again = asking-again; answered-read = answered-read; refused-read = refused-read; cell-read = cell-read; answer-again = line-again }
+of-frames = record {
+  asking-read = asking-read;
+  asking-again = asking-again;
+  answered-read = answered-read;
+  refused-read = refused-read;
+  cell-read = cell-read;
+  answered-numbers-read = answered-numbers-read;
+  refused-numbers-read = refused-numbers-read;
+  cell-of-numbers-read = cell-of-numbers-read;
+  answer-again = line-again;
+}
 
 -- ---- answer lines
 pub record OfLines : Type 0 where

@@ -17,7 +17,7 @@ use Rattle.frame.specs.declared.reading.Record.{Record}
 use Rattle.std.proofs.Common.{Some}
 use Rattle.frame.specs.Layout.{byte_width, count_width, float_width, pair_width, number_at, zeros_at, longest_sum_at, rungs_at, backward_at, record_length}
 use Rattle.frame.specs.Digits.{are_digits, spelled_of, field_of}
-use Rattle.frame.specs.Writing.{twos_complement, spelled_record, record_of, spelled_patterns, cells_of, line_of}
+use Rattle.frame.specs.Writing.{twos_complement, spelled_record, spelled_numbers, record_of, spelled_patterns, cells_of, written_of, line_of}
 use Rattle.frame.specs.Reading.{signed_word, record_at, rest_inside, reading_of, cell_bits_of, bits_read, cells_read, RecordFits, said_of, line_again}
 use Rattle.frame.proofs.DigitFacts.{digits_append}
 use Rattle.frame.proofs.SpellFacts.{spelled-length}
@@ -152,28 +152,25 @@ module _ (r : Record) (bits : List ℕ) where
 
 -- ---- the same of the numbers of any record and cells: the cells follow the number 0 alone
 module _ (r : Record) (cells : List Float) where
-  abbrev pub written_of : List ℕ
-  written_of = spelled_record r.number r.zeros r.longest_sum r.rungs r.backward ++ cond (eqb r.number 0) (cells_of cells) []
-
   abbrev patterns : List ℕ
   patterns = map (to_bits binary64) cells
 
-  numbers-answered : r.number ≡ 0 → written_of ≡ line_again r patterns
-  unfolding line_again
+  numbers-answered : r.number ≡ 0 → written_of r cells ≡ line_again r patterns
+  unfolding line_again written_of spelled_numbers
   numbers-answered e = simp (eq-eqb r.number 0 e, patterns-cells cells)
 
-  numbers-refused : (r.number ≡ 0 → ⊥) → written_of ≡ line_again r []
-  unfolding line_again spelled_patterns
+  numbers-refused : (r.number ≡ 0 → ⊥) → written_of r cells ≡ line_again r []
+  unfolding line_again written_of spelled_numbers spelled_patterns
   numbers-refused h = simp (ne_eqb r.number 0 h)
 
-  pub answered-numbers-read : RecordFits r → r.number ≡ 0 → length cells ≡ r.pairs * 2 → reading_of written_of ≡ Some r
+  pub answered-numbers-read : RecordFits r → r.number ≡ 0 → length cells ≡ r.pairs * 2 → reading_of (written_of r cells) ≡ Some r
   answered-numbers-read h e l = ap reading_of (numbers-answered e) ∙ record-read r patterns h (length-map cells (to_bits binary64) ∙ l)
 
-  pub refused-numbers-read : RecordFits r → (r.number ≡ 0 → ⊥) → reading_of written_of ≡ Some r
+  pub refused-numbers-read : RecordFits r → (r.number ≡ 0 → ⊥) → reading_of (written_of r cells) ≡ Some r
   refused-numbers-read h e = ap reading_of (numbers-refused e) ∙ record-read r [] h (sym (ap (λ (n : ℕ). n * 2) (h.refused e)))
 
   pub cell-of-numbers-read :
-      (i : ℕ) (z : Float) → r.number ≡ 0 → i < length cells → T (fits binary64 (get_or cells i z)) → cell_bits_of i written_of ≡ to_bits binary64 (get_or cells i z)
+      (i : ℕ) (z : Float) → r.number ≡ 0 → i < length cells → T (fits binary64 (get_or cells i z)) → cell_bits_of i (written_of r cells) ≡ to_bits binary64 (get_or cells i z)
   cell-of-numbers-read i z e h t =
       let same : get_or patterns i (to_bits binary64 z) ≡ to_bits binary64 (get_or cells i z) = get_or-map (to_bits binary64) cells i z in
       ap (cell_bits_of i) (numbers-answered e)

@@ -20,11 +20,13 @@ use Rattle.refusal.proofs.Distinct.{never-zero}
 use Rattle.call.specs.declared.answer.Counts.{Counts}
 use Rattle.call.specs.Answer.{Answer, number_in, zeros_in, longest_in, rungs_in, backward_in}
 use Rattle.frame.specs.declared.asking.Fields.{Fields}
+use Rattle.frame.specs.declared.reading.Record.{Record}
 use Rattle.frame.specs.Layout.{byte_width, count_width, float_width, asking_length, record_length}
 use Rattle.frame.specs.Digits.{are_digits, spelled_of}
 use Rattle.frame.specs.Over.{over}
 use Rattle.frame.specs.Asking.{asking_line_of}
-use Rattle.frame.specs.Writing.{twos_complement, spelled_record, record_of, spelled_patterns, cells_of, line_of}
+use Rattle.frame.specs.Writing.{twos_complement, spelled_record, spelled_numbers, record_of, spelled_patterns, cells_of, written_of, line_of}
+use Rattle.frame.specs.Reading.{said_of}
 use Rattle.frame.proofs.OverFacts.{over-over}
 use Rattle.frame.proofs.DigitFacts.{digits_append, spelled-digits}
 use Rattle.frame.proofs.SpellFacts.{spelled-length}
@@ -79,12 +81,16 @@ pub record-length : (a : Answer) → length (record_of a) ≡ record_length
 unfolding record_of
 record-length a = spelled-record-length (number_in a) (zeros_in a) (longest_in a) (rungs_in a) (backward_in a)
 
-module _ (a : Answer) (d o1 o2 o3 o4 o5 : List ℕ) (n z s r b : ℕ) where
+pub numbers-length : (r : Record) → length (spelled_numbers r) ≡ record_length
+unfolding spelled_numbers
+numbers-length r = spelled-record-length r.number r.zeros r.longest_sum r.rungs r.backward
+
+module _ (q : Record) (d o1 o2 o3 o4 o5 : List ℕ) (n z s r b : ℕ) where
   pub record-written :
-      n ≡ number_in a → z ≡ twos_complement (zeros_in a) → s ≡ longest_in a → r ≡ rungs_in a → b ≡ backward_in a →
+      n ≡ q.number → z ≡ twos_complement q.zeros → s ≡ q.longest_sum → r ≡ q.rungs → b ≡ q.backward →
       o1 ≡ over 0 (spelled_of byte_width n) d → o2 ≡ over 2 (spelled_of count_width z) o1 → o3 ≡ over 6 (spelled_of count_width s) o2 → o4 ≡ over 10 (spelled_of count_width r) o3 → o5 ≡ over 14 (spelled_of count_width b) o4 →
-      o5 ≡ over 0 (record_of a) d
-  unfolding record_of spelled_record
+      o5 ≡ over 0 (spelled_numbers q) d
+  unfolding spelled_numbers spelled_record
   record-written e f g h i e1 e2 e3 e4 e5 =
       let p1 = spelled_of byte_width n in
       let p2 = spelled_of count_width z in
@@ -150,6 +156,36 @@ module _ (cells : List Float) (at : ℕ) (d out : List ℕ) (place i : ℕ) wher
       small : (i n : ℕ) → i ≤ n → min i n ≡ i
       small i n h = omega arith
 
+-- ---- the line of any five numbers: behind another number than 0 the record is alone
+module _ (r : Record) (cells : List Float) where
+  pub written_refused : (r.number ≡ 0 → ⊥) → written_of r cells ≡ spelled_numbers r
+  unfolding written_of
+  written_refused h = simp (ne_eqb r.number 0 h) (append-nil (spelled_numbers r))
+
+  pub written-answered : r.number ≡ 0 → written_of r cells ≡ spelled_numbers r ++ cells_of cells
+  unfolding written_of
+  written-answered h = simp (eq-eqb r.number 0 h)
+
+  pub written-length : r.number ≡ 0 → length (written_of r cells) ≡ record_length + length cells * float_width
+  written-length h =
+      ap length (written-answered h)
+      ∙ length-append (spelled_numbers r) (cells_of cells)
+      ∙ ap (λ (k : ℕ). k + length (cells_of cells)) (numbers-length r)
+      ∙ ap (λ (k : ℕ). record_length + k) (cells-length cells)
+
+  pub written-least : record_length ≤ length (written_of r cells)
+  unfolding written_of
+  written-least = simp length-append (omega (arith, numbers-length r))
+
+-- ---- an answer's line is that of what it says, with so many pairs as one likes
+pub record-said : (a : Answer) (n : ℕ) → spelled_numbers (said_of a n) ≡ record_of a
+unfolding spelled_numbers record_of said_of
+record-said a n = refl
+
+pub line-written : (a : Answer) (n : ℕ) (cells : List Float) → written_of (said_of a n) cells ≡ line_of a cells
+unfolding written_of line_of spelled_numbers record_of said_of
+line-written a n cells = refl
+
 -- ---- an answer has the number 0, and a refusal another
 pub answered-number : (a : Answer) (counts : Counts) → a ≡ Ok counts → number_in a ≡ 0
 answered-number a counts e = ap number_in e
@@ -167,11 +203,8 @@ unfolding line_of
 line-answered a cells h = simp (eq-eqb (number_in a) 0 h)
 
 pub line-length : (a : Answer) (cells : List Float) → number_in a ≡ 0 → length (line_of a cells) ≡ record_length + length cells * float_width
-line-length a cells h =
-    ap length (line-answered a cells h)
-    ∙ length-append (record_of a) (cells_of cells)
-    ∙ ap (λ (k : ℕ). k + length (cells_of cells)) (record-length a)
-    ∙ ap (λ (k : ℕ). record_length + k) (cells-length cells)
+unfolding said_of
+line-length a cells h = ap length (sym (line-written a 0 cells)) ∙ written-length (said_of a 0) cells h
 
 -- the record, and no more than the cells behind it
 line-most-if : (a : Answer) (cells : List Float) (b : Bool) → length (record_of a ++ cond b (cells_of cells) []) ≤ record_length + length cells * float_width

@@ -1,26 +1,29 @@
 // An answer line written: the record, and behind the number 0 every cell by its bits.
-// From docs/SCOPE.md, The frame program. Promised: line_of of specs/Writing.antt, over the first bytes of the lent ones; `offer_answer` asks for
-// no room, says how long the line is, and writes it where it fits.
+// From docs/SCOPE.md, The frame program. Promised: written_of of specs/Writing.antt of any five numbers, line_of of an answer, over the first
+// bytes of the lent ones; `offer_line` and `offer_answer` ask for no room, say how long the line is, and write it where it fits.
 ghost use Rattle.std.specs.Prelude.{◌≡◌, ◌+◌, ◌*◌, ◌≤◌, length};
-ghost use Rattle.call.specs.Answer.{number_in, zeros_in, longest_in, rungs_in, backward_in};
 ghost use Rattle.frame.specs.Layout.{record_length, float_width, longest_cells};
 ghost use Rattle.frame.specs.Over.{over, offered};
-ghost use Rattle.frame.specs.Writing.{twos_complement, record_of, cells_of, line_of};
+ghost use Rattle.frame.specs.Writing.{twos_complement, spelled_numbers, record_of, cells_of, written_of, line_of};
+ghost use Rattle.frame.specs.Reading.{said_of};
 
 use crate::digits::spell;
 use crate::layout::{
     BACKWARD_AT, BYTE_WIDTH, COUNT_WIDTH, FLOAT_WIDTH, LONGEST_SUM_AT, NUMBER_AT, RECORD_LENGTH,
     RUNGS_AT, ZEROS_AT,
 };
-use call::answer::{Answer, Counts};
+use crate::reading::Record;
+use call::answer::Answer;
 use machine::bits::pattern;
 
-// What a refusal counts.
-const NO_COUNTS: Counts = Counts {
+// What a refusal says beside its number.
+const NO_COUNTS: Record = Record {
+    number: 0,
     zeros: 0,
     longest_sum: 0,
     rungs: 0,
     backward: 0,
+    pairs: 0,
 };
 
 // A count of zeros in two bytes.
@@ -32,34 +35,48 @@ fn twos_complement(zeros: i32) -> u64
 }
 
 // What the record says: of a refusal its number, and no counts.
-fn said(answer: Answer) -> (u32, Counts)
-    ensures number { result.0 ≡ number_in answer }
-    ensures zeros { result.1.zeros ≡ zeros_in answer }
-    ensures longest { result.1.longest_sum ≡ longest_in answer }
-    ensures rungs { result.1.rungs ≡ rungs_in answer }
-    ensures backward { result.1.backward ≡ backward_in answer }
+#[tactic(auto, unfolding(crate::specs::Reading::said_of))]
+fn said(answer: Answer) -> Record
+    ensures { result ≡ said_of answer 0 }
 {
     match answer {
-        Ok(counts) => (0, counts),
-        Err(refusal) => (refusal.number(), NO_COUNTS),
+        Ok(counts) => Record {
+            number: 0,
+            zeros: counts.zeros,
+            longest_sum: counts.longest_sum,
+            rungs: counts.rungs,
+            backward: counts.backward,
+            pairs: 0,
+        },
+        Err(refusal) => Record {
+            number: refusal.number(),
+            ..NO_COUNTS
+        },
     }
+}
+
+// Any five numbers, also one that is no refusal's with counts beside it. How many pairs there are is not written: the cells tell it.
+pub fn write_numbers(numbers: Record, out: &mut [u8])
+    requires { record_length ≤ length out.old }
+    ensures { out.new ≡ over 0 (spelled_numbers numbers) out.old }
+{
+    spell(u64::from(numbers.number), BYTE_WIDTH, out, NUMBER_AT);
+    spell(twos_complement(numbers.zeros), COUNT_WIDTH, out, ZEROS_AT);
+    spell(
+        u64::from(numbers.longest_sum),
+        COUNT_WIDTH,
+        out,
+        LONGEST_SUM_AT,
+    );
+    spell(u64::from(numbers.rungs), COUNT_WIDTH, out, RUNGS_AT);
+    spell(u64::from(numbers.backward), COUNT_WIDTH, out, BACKWARD_AT);
 }
 
 pub fn write_record(answer: Answer, out: &mut [u8])
     requires { record_length ≤ length out.old }
     ensures { out.new ≡ over 0 (record_of answer) out.old }
 {
-    let (number, counts) = said(answer);
-    spell(u64::from(number), BYTE_WIDTH, out, NUMBER_AT);
-    spell(twos_complement(counts.zeros), COUNT_WIDTH, out, ZEROS_AT);
-    spell(
-        u64::from(counts.longest_sum),
-        COUNT_WIDTH,
-        out,
-        LONGEST_SUM_AT,
-    );
-    spell(u64::from(counts.rungs), COUNT_WIDTH, out, RUNGS_AT);
-    spell(u64::from(counts.backward), COUNT_WIDTH, out, BACKWARD_AT);
+    write_numbers(said(answer), out);
 }
 
 // Every cell, from the place `at` on; the answer is the place behind them.
@@ -74,27 +91,49 @@ pub fn write_cells(cells: &[f64], out: &mut [u8], at: usize) -> usize
     at + cells.len() * FLOAT_WIDTH
 }
 
+pub fn write_line(numbers: Record, cells: &[f64], out: &mut [u8]) -> usize
+    requires { length (written_of numbers cells.now) ≤ length out.old }
+    ensures { (result ≡ length (written_of numbers cells.now))
+        × (out.new ≡ over 0 (written_of numbers cells.now) out.old) }
+{
+    write_numbers(numbers, out);
+    if numbers.number == 0 {
+        write_cells(cells, out, RECORD_LENGTH)
+    } else {
+        RECORD_LENGTH
+    }
+}
+
 pub fn write_answer(answer: Answer, cells: &[f64], out: &mut [u8]) -> usize
     requires { length (line_of answer cells.now) ≤ length out.old }
     ensures { (result ≡ length (line_of answer cells.now))
         × (out.new ≡ over 0 (line_of answer cells.now) out.old) }
 {
-    write_record(answer, out);
-    match answer {
-        Ok(_) => write_cells(cells, out, RECORD_LENGTH),
-        Err(_) => RECORD_LENGTH,
-    }
+    write_line(said(answer), cells, out)
 }
 
 // The record, and behind the number 0 the cells.
-fn line_length(answer: Answer, cells: &[f64]) -> usize
+fn line_length(numbers: Record, cells: &[f64]) -> usize
     requires { length cells.now ≤ longest_cells }
-    ensures { result ≡ length (line_of answer cells.now) }
+    ensures { result ≡ length (written_of numbers cells.now) }
 {
-    match answer {
-        Ok(_) => RECORD_LENGTH + cells.len() * FLOAT_WIDTH,
-        Err(_) => RECORD_LENGTH,
+    if numbers.number == 0 {
+        RECORD_LENGTH + cells.len() * FLOAT_WIDTH
+    } else {
+        RECORD_LENGTH
     }
+}
+
+pub fn offer_line(numbers: Record, cells: &[f64], out: &mut [u8]) -> usize
+    requires { length cells.now ≤ longest_cells }
+    ensures { (result ≡ length (written_of numbers cells.now))
+        × (out.new ≡ offered (written_of numbers cells.now) out.old) }
+{
+    let needed = line_length(numbers, cells);
+    if out.len() < needed {
+        return needed;
+    }
+    write_line(numbers, cells, out)
 }
 
 pub fn offer_answer(answer: Answer, cells: &[f64], out: &mut [u8]) -> usize
@@ -102,9 +141,5 @@ pub fn offer_answer(answer: Answer, cells: &[f64], out: &mut [u8]) -> usize
     ensures { (result ≡ length (line_of answer cells.now))
         × (out.new ≡ offered (line_of answer cells.now) out.old) }
 {
-    let needed = line_length(answer, cells);
-    if out.len() < needed {
-        return needed;
-    }
-    write_answer(answer, cells, out)
+    offer_line(said(answer), cells, out)
 }

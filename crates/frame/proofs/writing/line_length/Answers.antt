@@ -1,11 +1,11 @@
 -- `frame::writing::line_length` meets its contract: the record alone, or the cells behind it. Assumes nothing.
 use mathlib.Core.Path.{sym, ap, ◌∙◌}
 use lib.ListN.{length}
-use Rattle.frame.proofs.WriteFacts.{record-length, line_refused, line-length, answered-number, refused-number}
+use Rattle.frame.proofs.WriteFacts.{numbers-length, written_refused, written-length}
 use Rattle.frame.proofs.writing.line_length.Goals as goal
 
-pub returns-in-Ok : goal.returns-in-Ok
-returns-in-Ok c = let a = c.args in sym (line-length a.answer a.cells.now (answered-number a.answer _ c.in-Ok.is))
+pub returns-then-numbers-eq0 : goal.returns-then-numbers-eq0
+returns-then-numbers-eq0 c = let a = c.args in sym (written-length a.numbers a.cells.now c.if-numbers-eq0.true)
 
-pub returns-in-Err : goal.returns-in-Err
-returns-in-Err c = let a = c.args in sym (ap length (line_refused a.answer a.cells.now (refused-number a.answer _ c.in-Err.is)) ∙ record-length a.answer)
+pub returns-else-numbers-eq0 : goal.returns-else-numbers-eq0
+returns-else-numbers-eq0 c = let a = c.args in sym (ap length (written_refused a.numbers a.cells.now c.if-numbers-eq0.false) ∙ numbers-length a.numbers)

@@ -1,14 +1,16 @@
--- `frame::writing::offer_answer` meets its contract: by the room, which is compared with the line's length. Assumes nothing.
-use mathlib.Core.Path.{sym, ◌∙◌}
-use native.Mathlib.Omega.{arith}
-use Rattle.frame.proofs.OverFacts.{offered-room, offered-none}
+-- `frame::writing::offer_answer` meets its contract: the line of what the answer says, offered. Assumes nothing.
+use mathlib.Core.Path.{ap, ◌∙◌}
+use mathlib.Core.List.{List}
+use Prim.Native.Nat.{ℕ}
+use lib.ListN.{length}
+use Rattle.frame.specs.declared.reading.Record.{Record}
+use Rattle.frame.specs.Over.{offered}
+use Rattle.frame.specs.Writing.{written_of}
+use Rattle.frame.proofs.WriteFacts.{line-written}
 use Rattle.frame.proofs.writing.offer_answer.Goals as goal
 
-pub returns-then-out-needed : goal.returns-then-out-needed
-returns-then-out-needed c = let n = c in (n.line_length-needed.ensures, sym (offered-none _ _ (omega arith)))
-
-pub write_answer-requires : goal.write_answer-requires
-write_answer-requires c = omega arith
-
 pub returns : goal.returns
-returns c = let w = c in (w.write_answer.ensures.0, w.write_answer.ensures.1 ∙ sym (offered-room _ _ (omega arith)))
+returns c =
+    let a = c.args in
+    let e = ap (λ (r : Record). written_of r a.cells.now) c.said.ensures ∙ line-written a.answer 0 a.cells.now in
+    (c.offer_line.ensures.0 ∙ ap length e, c.offer_line.ensures.1 ∙ ap (λ (l : List ℕ). offered l a.out.now) e)

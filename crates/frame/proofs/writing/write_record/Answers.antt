@@ -1,27 +1,14 @@
--- `frame::writing::write_record` meets its contract: five fields, each behind the one before. Assumes nothing.
+-- `frame::writing::write_record` meets its contract: the numbers of what the answer says. Assumes nothing.
 use mathlib.Core.Path.{ap, ◌∙◌}
-use mir.Syntax.{w32}
-use mir.Val.{SFits}
-use mir.Facts.{to_z-of_z}
-use Rattle.std.proofs.Common.{rules}
-use Rattle.frame.specs.Writing.{twos_complement}
-use Rattle.frame.proofs.WriteFacts.{record-written}
+use mathlib.Core.List.{List}
+use Prim.Native.Nat.{ℕ}
+use Rattle.frame.specs.declared.reading.Record.{Record}
+use Rattle.frame.specs.Over.{over}
+use Rattle.frame.specs.Writing.{spelled_numbers}
+use Rattle.frame.proofs.WriteFacts.{record-said}
 use Rattle.frame.proofs.writing.write_record.Goals as goal
 
 pub returns : goal.returns
 returns c =
     let a = c.args in
-    let s = c.said-number.ensures in
-    let fits : SFits w32 c.said-number.result.1.zeros = search rules in
-    let back = to_z-of_z {w = w32} {z = c.said-number.result.1.zeros} fits in
-    record-written a.answer a.out.now _ _ _ _ _ _ _ _ _ _
-    (c.from.ensures ∙ s.number)
-    (c.twos_complement.ensures ∙ ap twos_complement (back ∙ s.zeros))
-    (c.from-2.ensures ∙ s.longest)
-    (c.from-3.ensures ∙ s.rungs)
-    (c.from-4.ensures ∙ s.backward)
-    c.spell.ensures
-    c.spell-2.ensures
-    c.spell-3.ensures
-    c.spell-4.ensures
-    c.spell-5.ensures
+    c.write_numbers.ensures ∙ ap (λ (r : Record). over 0 (spelled_numbers r) a.out.now) c.said.ensures ∙ ap (λ (l : List ℕ). over 0 l a.out.now) (record-said a.answer 0)

@@ -4,7 +4,7 @@
 ghost use Rattle.std.specs.Prelude.{◌≡◌, ◌<◌, ◌^◌};
 ghost use Rattle.recurrence.specs.First.{start_of, ended_of, settled_of, first_orders};
 
-use crate::search::{Search, lowers_first_orders, search_at, search_from};
+use crate::search::{Rule, Search, search_at, search_from};
 use crate::trial::first_trial;
 use complex::number::Complex;
 
@@ -77,6 +77,6 @@ pub fn first_orders(
     let start = search_at(argument, first, second, before, latest);
     settled(
         n,
-        search_from(lowers_first_orders, order, two_over_z, n - 2, start),
+        search_from(Rule::FirstOrders, order, two_over_z, n - 2, start),
     )
 }

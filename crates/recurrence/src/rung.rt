@@ -67,45 +67,46 @@ impl Ladder {
         older.plus(factor.product(newer))
     }
 
+    // one rung, as `rung` below has it of the parts of a ladder
     pub fn rung(self, i: u32, c: Climb) -> Rung
         requires { c.rungs + 1 < 2 ^ 32 }
         ensures { result ≡ rung_of self.two_over_z self.base_order i c }
     {
-        let older = c.older;
-        let newer = c.newer;
-        let state = c.state;
-        let rungs = c.rungs + 1;
-        let next = self.next_value(i, older, newer);
-        let entry = next.times_real(state.reciprocal());
-        if leaves(state, entry) {
-            return Rung {
-                climb: moved(newer, entry, state, rungs),
-                entry: entry,
-                moved: true,
-            };
-        }
-        Rung {
-            climb: Climb {
-                older: newer,
-                newer: next,
-                state: state,
-                rungs: rungs,
-            },
-            entry: entry,
-            moved: false,
-        }
+        rung(self.two_over_z, self.base_order, i, c)
     }
 }
 
-// One rung, as docs/TRACE.md quotes it (C3): for that alone it stands beside Ladder::rung. The parts of a ladder come apart here and in `fill` (T6), whose
+// One rung, as docs/TRACE.md quotes it (C3): that of a ladder goes through it. The parts of a ladder come apart here and in `fill` (T6), whose
 // signatures are quoted there, and in `climb`, search_from and first_orders, as climb_from, search_from and first_orders of specs/ have them.
 pub fn rung(two_over_z: Complex, base_order: f64, i: u32, c: Climb) -> Rung
     requires { c.rungs + 1 < 2 ^ 32 }
     ensures { result ≡ rung_of two_over_z base_order i c }
 {
-    Ladder {
+    let ladder = Ladder {
         two_over_z,
         base_order,
+    };
+    let older = c.older;
+    let newer = c.newer;
+    let state = c.state;
+    let rungs = c.rungs + 1;
+    let next = ladder.next_value(i, older, newer);
+    let entry = next.times_real(state.reciprocal());
+    if leaves(state, entry) {
+        return Rung {
+            climb: moved(newer, entry, state, rungs),
+            entry: entry,
+            moved: true,
+        };
     }
-    .rung(i, c)
+    Rung {
+        climb: Climb {
+            older: newer,
+            newer: next,
+            state: state,
+            rungs: rungs,
+        },
+        entry: entry,
+        moved: false,
+    }
 }

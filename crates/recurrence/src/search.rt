@@ -22,6 +22,13 @@ pub struct Search {
     pub rungs: u32,
 }
 
+// which values are lowered
+#[derive(Clone, Copy)]
+pub enum Rule {
+    FirstOrders,
+    OutOfUnderflow,
+}
+
 pub fn is_found(s: Search) -> bool
     ensures { result ≡ is_found s }
 {
@@ -116,8 +123,8 @@ fn search_step<F: Fn(Complex, f64) -> bool + Copy>(
     )
 }
 
-// `count` rungs at most, until two neighbours are on scale
-pub fn search_from<F: Fn(Complex, f64) -> bool + Copy>(
+// the search by the rule that `is_lowered` keeps to
+fn searched_by<F: Fn(Complex, f64) -> bool + Copy>(
     is_lowered: F,
     base_order: f64,
     two_over_z: Complex,
@@ -140,4 +147,27 @@ pub fn search_from<F: Fn(Complex, f64) -> bool + Copy>(
         s = search_step(is_lowered, ladder, i, s);
     }
     s
+}
+
+// `count` rungs at most, until two neighbours are on scale
+pub fn search_from(
+    rule: Rule,
+    base_order: f64,
+    two_over_z: Complex,
+    count: u32,
+    start: Search,
+) -> Search
+    requires { start.rungs + count < 2 ^ 31 }
+    ensures { result ≡ search_from rule base_order two_over_z count start }
+{
+    match rule {
+        Rule::FirstOrders => searched_by(lowers_first_orders, base_order, two_over_z, count, start),
+        Rule::OutOfUnderflow => searched_by(
+            lowers_out_of_underflow,
+            base_order,
+            two_over_z,
+            count,
+            start,
+        ),
+    }
 }

@@ -96,11 +96,18 @@ impl Climb {
         requires { self.rungs + rungs < 2 ^ 32 }
         ensures { result ≡ record { older = older; newer = newer; state = self.state; rungs = self.rungs + rungs } }
     {
-        Climb {
-            older,
-            newer,
-            state: self.state,
-            rungs: self.rungs + rungs,
-        }
+        reached(older, newer, self.state, self.rungs + rungs)
+    }
+}
+
+// the climb at two neighbouring values
+pub fn reached(older: Complex, newer: Complex, state: OverflowState, rungs: u32) -> Climb
+    ensures { result ≡ record { older = older; newer = newer; state = state; rungs = rungs } }
+{
+    Climb {
+        older: older,
+        newer: newer,
+        state: state,
+        rungs: rungs,
     }
 }

@@ -7,7 +7,7 @@ ghost use Rattle.right_half_plane.specs.Recover.{is_zero_pair, settled_of, recov
 
 use call::limits;
 use complex::number::Complex;
-use recurrence::search::{Search, lowers_out_of_underflow, search_at, search_from};
+use recurrence::search::{Rule, Search, search_at, search_from};
 use recurrence::state::{Climb, OverflowState};
 use refusal::refusal::Refusal;
 
@@ -63,5 +63,5 @@ pub fn recover(
     ensures { result ≡ recover_of fraction two_over_z z steps first second }
 {
     let start = search_at(z, first, second, None, None);
-    settled(search_from(lowers_out_of_underflow, fraction, two_over_z, steps, start))
+    settled(search_from(Rule::OutOfUnderflow, fraction, two_over_z, steps, start))
 }

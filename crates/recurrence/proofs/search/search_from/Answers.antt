@@ -1,31 +1,9 @@
--- `recurrence::search::search_from` meets its contract: what is left to search, from where the search stands, is the whole search. Assumes nothing.
-use mathlib.Core.Path.{sym, ap, ◌∙◌}
-use Prim.Native.Nat.{◌+◌}
-use native.Mathlib.Omega.{arith}
-use Rattle.recurrence.proofs.SearchFacts.{search_left, search-start, search-next, search-found, search-end}
+-- `recurrence::search::search_from` meets its contract: each rule's function keeps to its rule. Assumes nothing.
+use Rattle.recurrence.specs.Rule as rule
 use Rattle.recurrence.proofs.search.search_from.Goals as goal
 
-pub loop-i-init : goal.loop-i-init
-loop-i-init g c = (omega arith, λ rule k. search-start rule _ _ _ _)
+pub returns-in-FirstOrders : goal.returns-in-FirstOrders
+returns-in-FirstOrders c = rw (c.searched_by.ensures rule.FirstOrders (λ argument l lowers p. p.1), c.in-FirstOrders.is)
 
-pub returns-then-is_found : goal.returns-then-is_found
-returns-then-is_found g c = λ rule k. sym (c.loop-i.invariant.1 rule k ∙ search-found rule _ _ _ c.loop-i.i c.loop-i.s (sym c.is_found.ensures ∙ c.if-is_found.true))
-
-pub loop-i-preserved : goal.loop-i-preserved
-loop-i-preserved g c =
-    let e = c.search_step-s.ensures.1 in (
-      omega arith,
-      λ rule k. c.loop-i.invariant.1 rule k ∙ search-next rule _ _ _ c.loop-i.i c.loop-i.s (omega arith) (sym c.is_found.ensures ∙ c.if-is_found.false) ∙ ap (search_left rule _ _ _ _) (sym (c.search_step-s.ensures.0 rule k)),
-    )
-
-pub returns : goal.returns
-returns g c = λ rule k. sym (c.loop-i.invariant.1 rule k ∙ search-end rule _ _ _ c.loop-i.i c.loop-i.s (omega arith))
-
-pub returns-else-is_found : goal.returns-else-is_found
-returns-else-is_found g c =
-    λ rule k. sym (
-    c.loop-i.invariant.1 rule k
-    ∙ search-next rule _ _ _ c.loop-i.i c.loop-i.s (omega arith) (sym c.is_found.ensures ∙ c.if-is_found.false)
-    ∙ ap (search_left rule _ _ _ _) (sym (c.search_step-s.ensures.0 rule k))
-    ∙ search-end rule _ _ _ (c.loop-i.i + 1) c.search_step-s.result (omega arith)
-    )
+pub returns-in-OutOfUnderflow : goal.returns-in-OutOfUnderflow
+returns-in-OutOfUnderflow c = rw (c.searched_by-in-OutOfUnderflow.ensures rule.OutOfUnderflow (λ argument l lowers p. p.1), c.in-OutOfUnderflow.is)

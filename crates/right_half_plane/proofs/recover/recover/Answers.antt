@@ -2,7 +2,6 @@
 use mathlib.Core.Path.{sym, ap, subst}
 use Prim.Native.Nat.{◌≤◌}
 use native.Mathlib.Nat.{le_trans}
-use Rattle.recurrence.specs.Rule as rule
 use Rattle.recurrence.specs.declared.search.Search.{Search}
 use Rattle.right_half_plane.proofs.Counts.{recovery-rungs}
 use Rattle.right_half_plane.proofs.recover.recover.Goals as goal
@@ -10,4 +9,4 @@ use Rattle.right_half_plane.proofs.recover.recover.Goals as goal
 pub settled-requires : goal.settled-requires
 settled-requires c =
     let z = ap (λ (s : Search). s.rungs) c.search_at-start.ensures in
-    subst (λ (s : Search). s.rungs ≤ 1000) (sym (c.search_from.ensures rule.OutOfUnderflow (λ argument l lowers p. p.1))) (le_trans (recovery-rungs _ _ _ _ z) c.requires)
+    subst (λ (s : Search). s.rungs ≤ 1000) (sym c.search_from.ensures) (le_trans (recovery-rungs _ _ _ _ z) c.requires)

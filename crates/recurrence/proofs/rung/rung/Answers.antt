@@ -1,7 +1,7 @@
--- `recurrence::rung::Ladder::rung` meets its contract: the calls in their order, and the move by its test. Assumes nothing.
+-- `recurrence::rung::rung` meets its contract: the calls in their order, and the move by its test. Assumes nothing.
 use mathlib.Core.Path.{sym, ◌∙◌}
 use Rattle.recurrence.proofs.RungFacts.{moves, stays}
-use Rattle.recurrence.proofs.rung.Ladder.rung.Goals as goal
+use Rattle.recurrence.proofs.rung.rung.Goals as goal
 
 pub returns-then-leaves : goal.returns-then-leaves
 returns-then-leaves c =

@@ -2,7 +2,7 @@ use mathlib.Core.Path.{◌≡◌}
 use Prim.Native.Nat.{◌+◌}
 use Rattle.recurrence.specs.Search.{IsRuleOf, search_from}
 use Rattle.recurrence.proofs.SearchFacts.{search_left}
-use Rattle.recurrence.proofs.search.search_from.Given as goal
+use Rattle.recurrence.proofs.search.searched_by.Given as goal
 
 abbrev pub invariant-loop-i : goal.invariant-loop-i
 invariant-loop-i g l =

@@ -9,11 +9,11 @@ use lib.ListN.{length, take, drop, set, length-append}
 use lib.Seq.{take_at, take-suc-set, take-add, length-take-le}
 use Rattle.laws.proofs.Part.{rest-length, put_rest}
 use Rattle.frame.specs.Layout.{longest_line}
-use Rattle.frame.specs.Over.{over}
-use Rattle.frame.proofs.OverFacts.{over-length}
+use Rattle.frame.specs.Over.{over, offered}
+use Rattle.frame.proofs.OverFacts.{over-length, offered-room}
 use Rattle.splitting.specs.Lines.{newline}
 use Rattle.answering.specs.Feed.{with_line}
-use Rattle.lichenoar.specs.Feed.{most_room}
+use Rattle.lichenoar.specs.Feed.{most_room, most_written}
 
 -- ---- a line written behind what is written, and its newline
 pub record Closing (d l buffer : List ℕ) (f n : ℕ) : Type 0 where
@@ -58,6 +58,16 @@ module _ (d l ys : List ℕ) (f n : ℕ) (room : f + most_room ≤ length d) (mo
 -- the lent rest of the bytes has room for any answer line
 pub lent-room : (d : List ℕ) (f : ℕ) → f + most_room ≤ length d → longest_line ≤ length (mid_of f (length d - f) d)
 lent-room d f h = omega (arith, rest-length f d)
+
+-- what an answer line's function gives of the lent rest
+pub behind :
+    (l d ys : List ℕ) (f n : ℕ) → f + most_room ≤ length d → length l ≤ longest_line → n ≡ length l → ys ≡ offered l (mid_of f (length d - f) d) → Closing d l (put_mid f (length d - f) d ys) f n
+behind l d ys f n h m e g = closing d l ys f n h m e (g ∙ offered-room l (mid_of f (length d - f) d) (omega (arith, lent-room d f h, m)))
+
+-- how much is written leaves room for a line
+pub room :
+    (d : List ℕ) (f : ℕ) (w : List ℕ) → take f d ≡ w → f ≤ most_written → length d ≡ most_written → length w + most_room ≤ most_written → f + most_room ≤ length d
+room d f w e h l r = let n = length-take-le f d (omega arith) in let m = ap length e in omega arith
 
 -- ---- the bytes taken so far
 pub taken-both : (l : List ℕ) (at next : ℕ) → at ≤ next → take at l ++ take (next - at) (drop at l) ≡ take next l

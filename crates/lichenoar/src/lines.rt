@@ -1,13 +1,14 @@
 // Bytes of the input taken in order: kept, or the line closed and its answer line written behind the ones before, with its newline.
 // Promised: fed_of of crate answering's specs/Feed.antt. Of a long line the first 57 bytes are kept, which say all that its answer depends on.
-ghost use Rattle.std.specs.Prelude.{◌≡◌, [], ◌+◌, ◌≤◌, ◌<◌, leb, length};
+ghost use Rattle.std.specs.Prelude.{◌≡◌, [], ◌+◌, ◌≤◌, ◌<◌, leb, length, set};
+ghost use Rattle.splitting.specs.Lines.{newline};
 ghost use Rattle.splitting.specs.Cut.{part_of};
 ghost use Rattle.answering.specs.Line.{parsed_line};
-ghost use Rattle.answering.specs.Feed.{with_line, step_of, fed_of};
+ghost use Rattle.answering.specs.Feed.{with_line, closed_of, step_of, fed_of};
 ghost use Rattle.lichenoar.specs.Feed.{most_room, most_written, frame_ahead};
 
-use answering::line::answer_parsed;
-use frame::asking::{Asking, Fields, asked, parse, read_asking};
+use answering::line::{answer_line, answer_parsed};
+use frame::asking::{Asking, Fields, asked, read_asking};
 use frame::layout::ASKING_LENGTH;
 use splitting::cut::{Line, NEWLINE};
 use std::marker::Model;
@@ -38,6 +39,15 @@ impl Model for Answers {
     ghost view = { λ a. take a.filled a.bytes };
 
     ghost invariant = { λ a. a.filled ≤ 65536 };
+}
+
+// A newline behind the first `end` bytes. How many there are then.
+fn ended(bytes: &mut [u8], end: usize) -> usize
+    requires { end < length bytes.old }
+    ensures { (result ≡ end + 1) × (bytes.new ≡ set bytes.old end newline) }
+{
+    bytes[end] = NEWLINE;
+    end + 1
 }
 
 impl Answers {
@@ -76,9 +86,17 @@ impl Answers {
     {
         let bytes = &mut self.bytes[..];
         let n = answer_parsed(parsed, &mut bytes[self.filled..]);
-        let end = self.filled + n;
-        bytes[end] = NEWLINE;
-        self.filled = end + 1;
+        self.filled = ended(bytes, self.filled + n);
+    }
+
+    // A line that was not read where it stands, read and answered.
+    pub fn close_line(&mut self, line: &[u8])
+        requires { length self.old + most_room ≤ most_written }
+        ensures { self.new ≡ closed_of line.now self.old }
+    {
+        let bytes = &mut self.bytes[..];
+        let length = answer_line(line, &mut bytes[self.filled..]);
+        self.filled = ended(bytes, self.filled + length);
     }
 }
 
@@ -111,7 +129,7 @@ impl Buffers {
         ensures { feed_of self.new ≡ step_of (feed_of self.old) b }
     {
         if b == NEWLINE {
-            self.out.close(parse(self.line.held()));
+            self.out.close_line(self.line.held());
             self.line.clear();
         } else {
             self.line.keep(b);

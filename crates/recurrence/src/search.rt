@@ -124,7 +124,7 @@ fn search_step<F: Fn(Complex, f64) -> bool + Copy>(
 }
 
 // the search by the rule that `is_lowered` keeps to
-fn searched_by<F: Fn(Complex, f64) -> bool + Copy>(
+pub fn searched_by<F: Fn(Complex, f64) -> bool + Copy>(
     is_lowered: F,
     base_order: f64,
     two_over_z: Complex,

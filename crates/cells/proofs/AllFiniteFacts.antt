@@ -56,7 +56,7 @@ all-eight l i d h =
     ∙ row-of-eight (get_or l i d) (get_or l (i + 1) d) (get_or l (i + 2) d) (get_or l (i + 3) d) (get_or l (i + 4) d) (get_or l (i + 5) d) (get_or l (i + 6) d) (get_or l (i + 7) d) (all_finite (drop (i + 8) l))
 
 -- eight products take one in each
-eight-next : (l : List Float) (i : ℕ) (d a b c d' e f g h : Float) → i + 8 ≤ length l → Noughts a b c d' e f g h
+pub eight-next : (l : List Float) (i : ℕ) (d a b c d' e f g h : Float) → i + 8 ≤ length l → Noughts a b c d' e f g h
     → (together a b c d' e f g h && all_finite (drop i l)) ≡ (together (a ⊗ get_or l i d) (b ⊗ get_or l (i + 1) d) (c ⊗ get_or l (i + 2) d) (d' ⊗ get_or l (i + 3) d) (e ⊗ get_or l (i + 4) d) (f ⊗ get_or l (i + 5) d) (g ⊗ get_or l (i + 6) d) (h ⊗ get_or l (i + 7) d) && all_finite (drop (i + 8) l))
 eight-next l i d a b c d' e f g h k n =
     ap (λ (t : Bool). together a b c d' e f g h && t) (all-eight l i d k)

@@ -25,7 +25,7 @@ module _ (held line : List ℕ) (sent : ℕ) (r : Turn) where
   unfolding Taken TakenSome
   taken-end buffer w = let e : 0 ≡ min 0 (length buffer) = omega arith in subst (λ (m : ℕ). TakenSome (take m buffer) held sent line r) e w
 
-  some_bytes : (bytes : List ℕ) → 0 < length bytes → AfterBytes held bytes sent line r → TakenSome bytes held sent line r
+  pub some_bytes : (bytes : List ℕ) → 0 < length bytes → AfterBytes held bytes sent line r → TakenSome bytes held sent line r
   unfolding TakenSome
   some_bytes [] e w = absurd (omega arith)
   some_bytes (b ∷ bytes) e w = w

@@ -1,15 +1,19 @@
 -- The cases of `hypot_of`, as tests on the parts tell them apart, and what a sum of squares within its range says of the parts. Assumes nothing.
 use mathlib.Core.Path.{◌≡◌, refl, sym, ap, ◌∙◌, subst}
 use mathlib.Core.Bool.{Bool, true, false, not, ◌||◌, cond, beq, true≢false}
-use Prim.Native.Nat.{ℕ, zero, suc, ◌*◌, ◌<◌}
+use Prim.Native.Nat.{ℕ, zero, suc, ◌*◌, ◌%◌, ◌^◌, ◌<◌}
 use native.Mathlib.Nat.{zero-mul, mul-pos, lt_irrefl, zero-lt-suc}
+use native.Mathlib.Omega.{arith}
 use lib.IntN.{ℤ, pos}
 use lib.Dec.{T, eqb, eqb→eq}
-use lib.Ieee.{Float, nan, inf, fin, Format, binary64, up, down, add, mul, le, eq, ne, of_bits, to_bits, is_nan}
+use lib.Ieee.{Float, nan, inf, fin, Format, binary64, up, down, add, mul, le, eq, ne, of_bits, to_bits, is_nan, fits}
 use lib.Ieee.Fits.{up_pos, and_l}
 use lib.Ieee.Compare.{differs_from_itself}
 use lib.Ieee.Scale.{finite}
+use borrow.Author.Tests.{ne_eqb}
 use Rattle.std.specs.Float.{float_is_infinite}
+use Rattle.laws.proofs.Value.{bare, finite-no-nan}
+use Rattle.laws.proofs.Bits.{inf_bits, to_bits-bare, to_bits-finite, bare-fits}
 use Rattle.laws.proofs.Order.{finite-between}
 use Rattle.machine.specs.Magnitude.{magnitude_of}
 use Rattle.roots.specs.Hypot.{root_at, sum_of_squares, least_sum, greatest_sum, larger, smaller, scaled_hypot, infinite, full_hypot, hypot_of}
@@ -20,6 +24,20 @@ unfolding float_is_infinite
 infinite-is nan = refl
 infinite-is (inf s) = refl
 infinite-is (fin s m e) = refl
+
+-- and by the pattern
+differs : (b : ℕ) → b < inf_bits → b ≡ inf_bits → ⊥
+differs b h e = omega arith
+
+pub infinite-by-pattern : (x : Float) → T (fits binary64 x) → eqb (to_bits binary64 x % 2 ^ 63) inf_bits ≡ infinite x
+unfolding to_bits
+infinite-by-pattern nan F = refl
+infinite-by-pattern (inf true) F = refl
+infinite-by-pattern (inf false) F = refl
+infinite-by-pattern (fin s m e) F =
+    let x = fin s m e in
+    ne_eqb (to_bits binary64 x % 2 ^ 63) inf_bits
+    (differs (to_bits binary64 x % 2 ^ 63) (subst (λ (b : ℕ). b < inf_bits) (sym (to_bits-bare x F (finite-no-nan x tt))) (to_bits-finite (bare x) (bare-fits x F) tt refl)))
 
 -- ---- which case it is
 no : {A : Type 0} → false ≡ true → A

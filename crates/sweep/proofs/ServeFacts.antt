@@ -100,7 +100,7 @@ module _ (line : List ℕ) (last : Turn) (before : Reached line last) (line' : L
         clean = clean-by [] r (λ w. absurd (let z : ◌≡◌ {A = ℕ} 0 1 = cc in omega arith));
       }
 
-  ends-unread : Failed last r → Served r
+  pub ends-unread : Failed last r → Served r
   ends-unread e =
       record {
         input = so_far;

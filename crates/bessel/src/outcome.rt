@@ -5,6 +5,7 @@ ghost use Rattle.bessel.specs.Outcome.{refused_outcome, judged_of};
 
 use call::answer::Answer;
 use cells::all_finite::all_finite;
+use cells::fill::fill;
 use machine::constants::not_a_number;
 use refusal::refusal::Refusal;
 
@@ -13,7 +14,7 @@ pub fn refuse(refusal: Refusal, out: &mut [f64]) -> Answer
     ensures { (result ≡ (refused_outcome refusal (length out.old)).answer)
         × (out.new ≡ (refused_outcome refusal (length out.old)).cells) }
 {
-    out.fill(not_a_number());
+    fill(out, not_a_number());
     Err(refusal)
 }
 

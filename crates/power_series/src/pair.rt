@@ -7,7 +7,7 @@ ghost use Rattle.power_series.specs.Visit.{walk_of, visit_of};
 ghost use Rattle.power_series.specs.shapes.Pair.{entered_of, pair_of, Settled, Begun, walk_from};
 
 use crate::entries::Entries;
-use crate::visit::{Standing, Visit, concluded, stepwise};
+use crate::visit::{Standing, Visit, stepwise};
 use complex::number::Complex;
 use machine::constants::Machine;
 use series_step::descent::{Descent, start};
@@ -115,5 +115,5 @@ pub fn downward(g: Setting, out: &mut Entries) -> Visit
         return Visit { ..stepwise(g, out) };
     }
     let r = paired(g, seeds(g, n, first, second), out);
-    concluded(r, out)
+    out.concluded(r)
 }

@@ -6,6 +6,7 @@ ghost use Rattle.power_series.specs.Tiny.{lowest_of, zeros_of, tiny_of};
 
 use crate::entries::Entries;
 use crate::visit::Visit;
+use cells::fill::fill;
 
 fn lowest(order: f64) -> f64
     ensures { result ≡ lowest_of order }
@@ -37,7 +38,7 @@ pub fn tiny(order: f64, modulus: f64, out: &mut Entries) -> Visit
         × (out.new.cells.now ≡ (tiny_of order modulus (orders out.old)).cells) }
 {
     let n = out.len();
-    out.cells.fill(0.0);
+    fill(out.cells, 0.0);
     out.cells[0] = lowest(order);
     Visit {
         zeros: zeros(order, modulus, n as u32),

@@ -7,6 +7,7 @@ ghost use Rattle.power_series.specs.Visit.{walk_of, visit_of};
 ghost use Rattle.power_series.specs.shapes.Visit.{concluded_of};
 
 use crate::entries::Entries;
+use cells::fill::fill;
 use machine::constants::not_a_number;
 use series_step::descent::{Descent, start};
 use series_step::setting::Setting;
@@ -50,17 +51,16 @@ fn descend(g: Setting, out: &mut Entries) -> Standing
 }
 
 // The record of a visit that ended there, and the fixed not-a-number below it.
-pub fn concluded(r: Standing, out: &mut Entries) -> Visit
-    requires { r.left ≤ orders out.old }
-    ensures kept { Kept out.old out.new }
-    ensures visit { (result ≡ (concluded_of r out.old.cells.now).visit)
-        × (out.new.cells.now ≡ (concluded_of r out.old.cells.now).cells) }
+pub fn concluded(r: Standing, out: &mut [f64]) -> Visit
+    requires { (length out.old ≤ 1024) × (r.left * 2 ≤ length out.old) }
+    ensures { (result ≡ (concluded_of r out.old).visit)
+        × (out.new ≡ (concluded_of r out.old).cells) }
 {
     let left = r.left;
     let s = r.state;
     let c = s.counts;
     let below = left * 2;
-    out.cells[0..below].fill(not_a_number());
+    fill(&mut out[0..below], not_a_number());
     Visit {
         zeros: c.zeros,
         stopped: s.stopped,
@@ -70,11 +70,23 @@ pub fn concluded(r: Standing, out: &mut Entries) -> Visit
     }
 }
 
+impl<'a> Entries<'a> {
+    // the same of a visit over these entries
+    pub fn concluded(&mut self, r: Standing) -> Visit
+        requires { r.left ≤ orders self.old }
+        ensures kept { Kept self.old self.new }
+        ensures visit { (result ≡ (concluded_of r self.old.cells.now).visit)
+            × (self.new.cells.now ≡ (concluded_of r self.old.cells.now).cells) }
+    {
+        concluded(r, self.cells)
+    }
+}
+
 pub fn stepwise(g: Setting, out: &mut Entries) -> Visit
     ensures kept { Kept out.old out.new }
     ensures visit { (result ≡ (visit_of g (orders out.old)).visit)
         × (out.new.cells.now ≡ (visit_of g (orders out.old)).cells) }
 {
     let r = descend(g, out);
-    concluded(r, out)
+    out.concluded(r)
 }

@@ -27,6 +27,7 @@ use Rattle.right_half_plane.specs.declared.reach.Reached.{Reached}
 use Rattle.right_half_plane.specs.declared.reach.Reached.TheVariants as reached
 use Rattle.right_half_plane.specs.Ground.{Sized}
 use Rattle.right_half_plane.specs.Recover.{is_zero_pair, neighbours_of, settled_of, recover_of}
+use Rattle.right_half_plane.specs.shapes.Led.{MarkedFew}
 use Rattle.right_half_plane.specs.Reach.{steps_of, wanted_of, resting_of, climbed_of, resumed_of, begun_of, reach_of}
 
 -- ---- the climb out of underflow: two neighbours and the offset behind the rungs climbed, or refusal 7
@@ -128,3 +129,7 @@ on-scale-few g underflow c d e s z = arrived-few g d s (subst (Arrives g) e (rea
 
 pub marked-few : (g : Ground) (underflow : Bool) (c d : Climb) → reach_of g underflow c ≡ Ok (reached.Marked d) → Sized g → c.rungs ≡ 0 → d.rungs ≤ 1000
 marked-few g underflow c d e s z = arrived-few g d s (subst (Arrives g) e (reach-arrives g underflow c z))
+
+pub reached-few : (g : Ground) (underflow : Bool) (c : Climb) (r : Reached) → reach_of g underflow c ≡ Ok r → Sized g → c.rungs ≡ 0 → MarkedFew r
+reached-few g underflow c (reached.OnScale d) e s z = tt
+reached-few g underflow c (reached.Marked d) e s z = marked-few g underflow c d e s z

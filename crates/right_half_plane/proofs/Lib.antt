@@ -5,6 +5,7 @@ pub mod Counts
 pub mod GrowthFacts
 pub mod LeadFacts
 pub mod LeadingDigits
+pub mod LedFacts
 pub mod ModulusBound
 pub mod OffHalf
 pub mod OrderFacts

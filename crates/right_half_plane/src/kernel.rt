@@ -6,6 +6,7 @@ ghost use Rattle.std.specs.Float.Ieee.{le};
 ghost use Rattle.laws.proofs.Relative.{nonnegative};
 ghost use Rattle.complex.specs.Functions.{modulus_of};
 ghost use Rattle.call.specs.Limits.{largest_order};
+ghost use Rattle.right_half_plane.specs.shapes.Led.{MarkedFew, led_of};
 ghost use Rattle.right_half_plane.specs.Kernel.{LeadFits, rest_of, lead_kernel, pair_kernel, finished_kernel, kernel_of, afterwards};
 
 use crate::admitted::Admitted;
@@ -13,6 +14,7 @@ use crate::ground::{Ground, prepare};
 use crate::lead::{Lead, on_scale_lead};
 use crate::reach::Reached;
 use crate::seeds::{Seeded, Seeds};
+use cells::fill::fill;
 use complex::number::Complex;
 use recurrence::fill as climb_fill;
 use recurrence::state::Climb;
@@ -59,13 +61,25 @@ impl Ground {
 }
 
 impl Admitted {
+    // The lead of where the climb stands. It is one record for both ways, so that the compiler keeps it in registers.
+    #[tactic(auto, unfolding(crate::specs::shapes::Led::led_of))]
+    fn led(self, reached: Reached) -> Lead
+        requires { MarkedFew reached }
+        ensures { result ≡ led_of self.prepared reached }
+    {
+        match reached {
+            Reached::OnScale(c) => on_scale_lead(c),
+            Reached::Marked(c) => self.first_lead(c),
+        }
+    }
+
     // the zeros, and then the rest
     fn answered(self, s: Seeded, lead: Lead, out: &mut [f64]) -> Counts
         requires { LeadFits self.prepared lead × (length out.old ≡ self.prepared.count * 2) }
         ensures { (Ok result ≡ (lead_kernel self.prepared s lead).ending) × (out.new ≡ (lead_kernel self.prepared s lead).cells) }
     {
         let at = (lead.zeros as usize) * 2;
-        out[0..at].fill(0.0);
+        fill(&mut out[0..at], 0.0);
         let rungs = self.prepared.rest(lead, &mut out[at..]);
         Counts {
             zeros: lead.zeros,
@@ -93,10 +107,8 @@ impl Admitted {
             rungs: 0,
         };
         let reached = self.reach(s.underflow, start)?;
-        match reached {
-            Reached::OnScale(c) => Ok(self.answered(s, on_scale_lead(c), out)),
-            Reached::Marked(c) => Ok(self.answered(s, self.first_lead(c), out)),
-        }
+        let lead = self.led(reached);
+        Ok(self.answered(s, lead, out))
     }
 }
 

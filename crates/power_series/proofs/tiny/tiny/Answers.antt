@@ -18,5 +18,5 @@ returns-clause-visit c =
     let l = c.lowest in (
       simp (c.zeros.ensures, c.len-n.ensures),
       rw (← l.ensures)
-          (ap (λ (cells : List Float). set cells 0 l.result) (c.fill.ensures.after (λ y e. e)) ∙ replicate-first n (n / 2 * 2 - 1) nothing l.result (omega (arith, c.requires, e.even)) (omega (arith, c.requires))),
+          (ap (λ (cells : List Float). set cells 0 l.result) c.fill.ensures ∙ replicate-first n (n / 2 * 2 - 1) nothing l.result (omega (arith, c.requires, e.even)) (omega (arith, c.requires))),
     )

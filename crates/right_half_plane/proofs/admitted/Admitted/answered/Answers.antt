@@ -12,5 +12,5 @@ returns c =
     let a = c.args in
     let g = a.self.prepared in
     let r = c.rest-rungs.ensures in
-    let e = delivered-rungs g a.lead a.out.now _ c.requires.1 c.requires.0.zeros (c.fill.ensures.after (λ y e. e)) _ r.0 in
-    (ap (λ (k : ℕ). Ok (record { zeros = a.lead.zeros; longest_sum = a.s.terms; rungs = k; backward = a.s.backward })) e, delivered-cells g a.lead a.out.now _ c.requires.1 c.requires.0.zeros (c.fill.ensures.after (λ y e. e)) _ r.1)
+    let e = delivered-rungs g a.lead a.out.now _ c.requires.1 c.requires.0.zeros c.fill.ensures _ r.0 in
+    (ap (λ (k : ℕ). Ok (record { zeros = a.lead.zeros; longest_sum = a.s.terms; rungs = k; backward = a.s.backward })) e, delivered-cells g a.lead a.out.now _ c.requires.1 c.requires.0.zeros c.fill.ensures _ r.1)

@@ -8,8 +8,8 @@ ghost use Rattle.morning.specs.Rows.{page_text};
 
 use crate::rows::page_text;
 use crate::turn::Turn;
-use splitting::state::{State, status};
-use splitting::telling::{STDERR_FILENO, STDOUT_FILENO, loss};
+use splitting::state::State;
+use splitting::telling::{STDERR_FILENO, STDOUT_FILENO};
 
 // The one place where a page leaves the program: that of the whole input. How it ended is there for the demand. The two go apart, here and below,
 // since Served of specs/Turn.antt takes them so, and with it what docs/TRACE.md holds that is asked here.
@@ -42,5 +42,5 @@ pub fn tell(last: Turn, page: &[u64; 58])
     }
     let unwritten = b"morning: the page could not be written\n";
     let unread = b"morning: the input could not be read to its end; there is no page\n";
-    splitting::telling::tell(loss(state, unwritten, unread), status(state, last.refused));
+    splitting::telling::tell(state, last.refused, unwritten, unread);
 }

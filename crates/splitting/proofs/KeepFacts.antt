@@ -1,14 +1,28 @@
--- The bytes of a chunk taken so far, and what is held of them. Assumes nothing.
+-- A byte kept behind others in a lent buffer; the bytes of a chunk taken so far, and what is held of them. Assumes nothing.
 use mathlib.Core.Path.{◌≡◌, sym, ap, ◌∙◌, subst}
 use mathlib.Core.Bool.{true, false}
 use mathlib.Core.List.{List, [], ◌∷◌, ◌++◌}
 use Prim.Native.Nat.{ℕ, suc, ◌+◌, ◌-◌, ◌≤◌, ◌<◌}
+use native.Mathlib.Numerals.{add-one}
 use native.Mathlib.Omega.{arith}
-use lib.ListN.{length, take, drop, get_or, length-drop}
-use lib.Seq.{take-suc, take-add, get_or-drop, drop-drop}
+use lib.ListN.{length, take, drop, set, get_or, length-append, length-drop}
+use lib.Seq.{take_all, take-append-le, take-suc, take-suc-set, take-add, length-take-le, get_or-drop, drop-drop}
 use Rattle.splitting.specs.Lines.{newline}
 use Rattle.splitting.specs.Cut.{part_of, left_by, ended_in, closed_if, left_if, Taken}
 use Rattle.splitting.proofs.CutFacts.{left-newline, left_other, ended-newline, ended-other, left-append, ended-append}
+
+-- ---- a byte kept, or dropped where there is no room
+module _ (line : List ℕ) (held b : ℕ) where
+  pub keeps : held < length line → take (held + 1) (set line held b) ≡ take (length line) (take held line ++ (b ∷ []))
+  keeps h =
+      let x : take (held + 1) (set line held b) ≡ take held line ++ (b ∷ []) = ap (λ (k : ℕ). take k (set line held b)) (add-one held) ∙ take-suc-set line held b h in
+      let n : length (take held line ++ (b ∷ [])) ≡ held + 1 = length-append (take held line) (b ∷ []) ∙ ap (λ (k : ℕ). k + 1) (length-take-le held line (omega arith)) in
+      x ∙ sym (take_all (length line) (take held line ++ (b ∷ [])) (omega arith))
+
+  pub drops : length line ≤ held → held ≤ length line → take held line ≡ take (length line) (take held line ++ (b ∷ []))
+  drops g h =
+      let n : length (take held line) ≡ held = length-take-le held line h in
+      sym (take-append-le (length line) (take held line) (b ∷ []) (omega arith) ∙ take_all (length line) (take held line) (omega arith))
 
 -- ---- the bytes taken so far
 pub part_none : (chunk : List ℕ) (from : ℕ) → part_of chunk from from ≡ []

@@ -1,11 +1,12 @@
 // How a program ended, told: one line on standard error where something was lost, and the status, one digit and a newline, on descriptor 3
 // where that is open. A program itself ends with status 0 always; whoever starts it turns the digit into a status.
-// Promised: loss_of of specs/State.antt; that the digit is told is a write, of which no contract of the kit says what it was given.
+// No contract of the kit says what a write was given, so `send_loss` and `send_status` demand that they are given exactly loss_of and status_of of
+// specs/State.antt.
 ghost use Rattle.std.specs.Prelude.{◌≡◌, None, Some, MatchOption};
-ghost use Rattle.splitting.specs.State.{loss_of};
+ghost use Rattle.splitting.specs.State.{status_of, loss_of};
 
 use crate::cut::NEWLINE;
-use crate::state::State;
+use crate::state::{State, status};
 
 pub const STDOUT_FILENO: i32 = 1;
 
@@ -24,9 +25,24 @@ pub fn loss<'a>(state: State, unwritten: &'a [u8], unread: &'a [u8]) -> Option<&
     }
 }
 
-pub fn tell(loss: Option<&[u8]>, status: u8) {
+// The one place where a loss is told. The state and the two lines are there for the demand.
+fn send_loss(loss: Option<&[u8]>, state: State, unwritten: &[u8], unread: &[u8])
+    requires { MatchOption loss (loss_of state unwritten.now unread.now ≡ None) (λ y. loss_of state unwritten.now unread.now ≡ Some y.now) }
+{
     if let Some(line) = loss {
         io::write_all(STDERR_FILENO, line);
     }
-    io::write_all(STATUS_FILENO, &[status, NEWLINE]);
+}
+
+// The one place where the status is told. The state, and how many were refused, are there for the demand.
+fn send_status(digit: u8, state: State, refused: u64)
+    requires { digit ≡ status_of state refused }
+{
+    io::write_all(STATUS_FILENO, &[digit, NEWLINE]);
+}
+
+// The line for a write that failed, and the line for a read that failed, are the program's.
+pub fn tell(state: State, refused: u64, unwritten: &[u8], unread: &[u8]) {
+    send_loss(loss(state, unwritten, unread), state, unwritten, unread);
+    send_status(status(state, refused), state, refused);
 }

@@ -9,8 +9,7 @@ mod turn;
 
 use serve::Sweeper;
 use splitting::serving::serve;
-use splitting::state::status;
-use splitting::telling::{loss, tell};
+use splitting::telling::tell;
 
 fn main(rt: HostRuntime) {
     let mut stdin = rt.stdin();
@@ -20,8 +19,5 @@ fn main(rt: HostRuntime) {
     let unwritten =
         b"sweep: the frames and refusals could not be written; the output is not complete\n";
     let unread = b"sweep: the input could not be read to its end; the output is not complete\n";
-    tell(
-        loss(last.state, unwritten, unread),
-        status(last.state, last.refused),
-    );
+    tell(last.state, last.refused, unwritten, unread);
 }

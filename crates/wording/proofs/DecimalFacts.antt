@@ -1,4 +1,4 @@
--- A number in decimal, below 2^64, has one text. Assumes nothing.
+-- A number in decimal: below 2^64 it has at most 20 digits, and one text. Assumes nothing.
 use mathlib.Core.Path.{◌≡◌, refl, sym, ap, ◌∙◌, subst}
 use mathlib.Core.Bool.{Bool, true, false}
 use mathlib.Core.List.{List, ◌++◌}
@@ -9,6 +9,25 @@ use borrow.Author.Tests.{ltb-true, ltb-false}
 use lib.Dec.{ltb}
 use Rattle.io.specs.Digits.{last_digits, IsDigitCount}
 use Rattle.wording.specs.Decimal.{Decimal, Numbered, places_if, places_from, decimal_of}
+
+-- ---- a number below 2^64 has at most 20 decimal digits
+tens : (k : ℕ) → 100000000000000000000 ≤ 10 ^ (k + 20)
+tens zero = omega arith
+tens (suc k) =
+    let more : suc k + 20 ≡ suc (k + 20) = omega arith in
+    let e : 10 ^ (suc k + 20) ≡ 10 ^ (k + 20) * 10 = ap (λ (n : ℕ). 10 ^ n) more ∙ pow-suc 10 (k + 20) in
+    let h = tens k in
+    omega arith
+
+places-by : (n r k : ℕ) → n < 18446744073709551616 → IsDigitCount 10 1 n r → k ≡ r - 20 → r ≤ 20
+places-by n r zero h f e = omega arith
+places-by n r (suc k) h f e =
+    let less : r - 1 ≡ k + 20 = omega arith in
+    let g : 10 ^ (k + 20) ≤ n = subst (λ (m : ℕ). 10 ^ m ≤ n) less (f.2 (omega arith)) in
+    absurd (omega (arith, tens k, g, h))
+
+pub few-places : (n r : ℕ) → n < 18446744073709551616 → IsDigitCount 10 1 n r → r ≤ 20
+few-places n r h f = places-by n r (r - 20) h f refl
 
 -- ---- one number of digits is the fewest
 power-up : (j k : ℕ) → 10 ^ j ≤ 10 ^ (j + k)

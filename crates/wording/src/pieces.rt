@@ -1,10 +1,30 @@
-// A text of at most so many bytes, and a piece, or a number in decimal, behind it. Promised: Numbered of specs/Decimal.antt.
+// A piece, or a number in decimal, behind a text: what a lent buffer holds of one already, or a Text of at most so many bytes.
+// Promised: Numbered of specs/Decimal.antt.
 // It is no fmt::Write, though `write!` would spell a text at once: of `write!` a contract says what was written only where it returns Ok, and
 // none says that it does where there is room, so whoever tells a text would have to say what it tells when it could not be spelled.
-ghost use Rattle.std.specs.Prelude.{◌≡◌, [], ◌++◌, ◌+◌, ◌≤◌, length};
+ghost use Rattle.std.specs.Prelude.{◌≡◌, [], ◌++◌, ◌+◌, ◌≤◌, length, take};
 ghost use Rattle.wording.specs.Decimal.{Numbered};
 
 use std::marker::Model;
+
+pub fn put(piece: &[u8], text: &mut [u8], at: usize) -> usize
+    requires { at + length piece.now ≤ length text.old }
+    ensures { (result ≡ at + length piece.now)
+        × (take result text.new ≡ take at text.old ++ piece.now) }
+{
+    let end = at + piece.len();
+    text[at..end].copy_from_slice(piece);
+    end
+}
+
+pub fn put_number(n: u64, text: &mut [u8], at: usize) -> usize
+    requires { at + 20 ≤ length text.old }
+    ensures { (result ≤ at + 20) × Numbered n (take at text.old) (take result text.new) }
+{
+    let mut digits = [0u8; 20];
+    let places = io::decimal(n, &mut digits);
+    put(&digits[..places], text, at)
+}
 
 // A type of its own beside splitting's Line, for the reason given there: what is put behind is asked to have room, and never dropped.
 #[derive(Drop)]
@@ -44,10 +64,7 @@ impl<const N: usize> Text<N> {
         requires { length self.old + length piece.now ≤ N }
         ensures { self.new ≡ self.old ++ piece.now }
     {
-        let end = self.len + piece.len();
-        let bytes = &mut self.bytes[..];
-        bytes[self.len..end].copy_from_slice(piece);
-        self.len = end;
+        self.len = put(piece, &mut self.bytes, self.len);
     }
 
     pub fn put_number(&mut self, n: u64)
@@ -55,8 +72,6 @@ impl<const N: usize> Text<N> {
         ensures room { length self.new ≤ length self.old + 20 }
         ensures number { Numbered n self.old self.new }
     {
-        let mut digits = [0u8; 20];
-        let places = io::decimal(n, &mut digits);
-        self.put(&digits[..places]);
+        self.len = put_number(n, &mut self.bytes, self.len);
     }
 }

@@ -73,7 +73,8 @@ impl Admitted {
         }
     }
 
-    // the zeros, and then the rest
+    // The zeros, and then the rest. A function of its own: within K's whole call the registers would not do for the loop of the fill.
+    #[inline(never)]
     fn answered(self, s: Seeded, lead: Lead, out: &mut [f64]) -> Counts
         requires { LeadFits self.prepared lead × (length out.old ≡ self.prepared.count * 2) }
         ensures { (Ok result ≡ (lead_kernel self.prepared s lead).ending) × (out.new ≡ (lead_kernel self.prepared s lead).cells) }

@@ -86,12 +86,12 @@ unfolding spelled_numbers
 numbers-length r = spelled-record-length r.number r.zeros r.longest_sum r.rungs r.backward
 
 module _ (q : Record) (d o1 o2 o3 o4 o5 : List ℕ) (n z s r b : ℕ) where
-  pub record-written :
+  pub numbers-written :
       n ≡ q.number → z ≡ twos_complement q.zeros → s ≡ q.longest_sum → r ≡ q.rungs → b ≡ q.backward →
       o1 ≡ over 0 (spelled_of byte_width n) d → o2 ≡ over 2 (spelled_of count_width z) o1 → o3 ≡ over 6 (spelled_of count_width s) o2 → o4 ≡ over 10 (spelled_of count_width r) o3 → o5 ≡ over 14 (spelled_of count_width b) o4 →
       o5 ≡ over 0 (spelled_numbers q) d
   unfolding spelled_numbers spelled_record
-  record-written e f g h i e1 e2 e3 e4 e5 =
+  numbers-written e f g h i e1 e2 e3 e4 e5 =
       let p1 = spelled_of byte_width n in
       let p2 = spelled_of count_width z in
       let p3 = spelled_of count_width s in
@@ -185,6 +185,17 @@ record-said a n = refl
 pub line-written : (a : Answer) (n : ℕ) (cells : List Float) → written_of (said_of a n) cells ≡ line_of a cells
 unfolding written_of line_of spelled_numbers record_of said_of
 line-written a n cells = refl
+
+-- and its record is written as that is
+module _ (a : Answer) (d o1 o2 o3 o4 o5 : List ℕ) (n z s r b : ℕ) where
+  pub record-written :
+      n ≡ number_in a → z ≡ twos_complement (zeros_in a) → s ≡ longest_in a → r ≡ rungs_in a → b ≡ backward_in a →
+      o1 ≡ over 0 (spelled_of byte_width n) d → o2 ≡ over 2 (spelled_of count_width z) o1 → o3 ≡ over 6 (spelled_of count_width s) o2 → o4 ≡ over 10 (spelled_of count_width r) o3 → o5 ≡ over 14 (spelled_of count_width b) o4 →
+      o5 ≡ over 0 (record_of a) d
+  unfolding said_of
+  record-written e f g h i e1 e2 e3 e4 e5 =
+      numbers-written (said_of a 0) d o1 o2 o3 o4 o5 n z s r b e f g h i e1 e2 e3 e4 e5
+      ∙ ap (λ (q : List ℕ). over 0 q d) (record-said a 0)
 
 -- ---- an answer has the number 0, and a refusal another
 pub answered-number : (a : Answer) (counts : Counts) → a ≡ Ok counts → number_in a ≡ 0

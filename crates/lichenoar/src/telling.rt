@@ -1,4 +1,4 @@
-// How the program ended, told, as splitting's `tell` does: here nothing is refused, so the status is by the end alone. `send` demands that the digit
+// How the program ended, told, as splitting's `tell_end` does: here nothing is refused, so the status is by the end alone. `send` demands that the digit
 // that splitting tells is this program's.
 ghost use Rattle.std.specs.Prelude.{◌≡◌};
 ghost use Rattle.splitting.specs.State.{status_of as told_of};
@@ -16,7 +16,7 @@ fn status(state: State) -> u8
 fn send(digit: u8, state: State, refused: u64, unwritten: &[u8], unread: &[u8])
     requires { (digit ≡ status_of state) × (digit ≡ told_of state refused) }
 {
-    splitting::telling::tell(state, refused, unwritten, unread);
+    splitting::telling::tell_end(state, refused, unwritten, unread);
 }
 
 pub fn tell(state: State) {

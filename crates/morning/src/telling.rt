@@ -42,5 +42,5 @@ pub fn tell(last: Turn, page: &[u64; 58])
     }
     let unwritten = b"morning: the page could not be written\n";
     let unread = b"morning: the input could not be read to its end; there is no page\n";
-    splitting::telling::tell(state, last.refused, unwritten, unread);
+    splitting::telling::tell_end(state, last.refused, unwritten, unread);
 }

@@ -12,9 +12,8 @@ use Rattle.complex.specs.declared.number.Complex.{Complex}
 use Rattle.complex.specs.Arithmetic.{times_real, minus_real}
 use Rattle.recurrence.specs.Rung.{factor_of, next_of}
 use Rattle.recurrence.specs.Trial.{Trial, kept, ln_magnitude, reaches_limit, later_trial}
+use Rattle.recurrence.specs.Rule.{Rule, FirstOrders, OutOfUnderflow}
 use Rattle.recurrence.specs.declared.search.Search.{Search}
-use Rattle.recurrence.specs.declared.search.Rule.{Rule}
-use Rattle.recurrence.specs.declared.search.Rule.TheVariants.{FirstOrders, OutOfUnderflow}
 
 -- the last two values tried are both on scale
 unfoldable pub is_found : Search → Bool

@@ -1,7 +1,7 @@
 // How a program ended, told: one line on standard error where something was lost, and the status, one digit and a newline, on descriptor 3
 // where that is open. A program itself ends with status 0 always; whoever starts it turns the digit into a status.
 // No contract of the kit says what a write was given, so `send_loss` and `send_status` demand that they are given exactly loss_of and status_of of
-// specs/State.antt.
+// specs/State.antt, and `send_lent` that what it is given is what was lent.
 ghost use Rattle.std.specs.Prelude.{◌≡◌, None, Some, MatchOption};
 ghost use Rattle.splitting.specs.State.{status_of, loss_of};
 
@@ -42,7 +42,45 @@ fn send_status(digit: u8, state: State, refused: u64)
 }
 
 // The line for a write that failed, and the line for a read that failed, are the program's.
-pub fn tell(state: State, refused: u64, unwritten: &[u8], unread: &[u8]) {
+pub fn tell_end(state: State, refused: u64, unwritten: &[u8], unread: &[u8]) {
     send_loss(loss(state, unwritten, unread), state, unwritten, unread);
     send_status(status(state, refused), state, refused);
+}
+
+// The one place where a line and a digit are told as they are. What was lent is there for the demand.
+fn send_lent(loss: Option<&[u8]>, digit: u8, lent: Option<&[u8]>, given: u8)
+    requires line { loss ≡ lent }
+    requires digit { digit ≡ given }
+{
+    if let Some(line) = loss {
+        io::write_all(STDERR_FILENO, line);
+    }
+    io::write_all(STATUS_FILENO, &[digit, NEWLINE]);
+}
+
+// The same of any line and any digit, for a program that has other ends than State's.
+pub fn tell(loss: Option<&[u8]>, status: u8) {
+    send_lent(loss, status, loss, status);
+}
+
+#[cfg(test)]
+mod tests {
+    use super::*;
+    use std::fs;
+    use std::io::Read;
+    use std::os::fd::AsRawFd;
+
+    // No descriptor is open in a test but the first three, so that the file is the one on which the digit is told.
+    #[test]
+    fn any_line_and_any_digit(rt: HostRuntime) -> std::io::Result<()> {
+        let told = fs::create(&rt, "told")?;
+        assert_eq!(rt; told.as_raw_fd(), STATUS_FILENO);
+        tell(Some(b"told: a line and the digit 7\n"), b'7');
+        tell(None, b'x');
+        tell(Some(b""), b'0');
+        let mut bytes = [0u8; 16];
+        let n = fs::open(&rt, "told")?.read(&mut bytes)?;
+        assert!(rt; &bytes[..n] == b"7\nx\n0\n".as_slice());
+        fs::remove_file(&rt, "told")
+    }
 }

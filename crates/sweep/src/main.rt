@@ -9,7 +9,7 @@ mod turn;
 
 use serve::Sweeper;
 use splitting::serving::serve;
-use splitting::telling::tell;
+use splitting::telling::tell_end;
 
 fn main(rt: HostRuntime) {
     let mut stdin = rt.stdin();
@@ -19,5 +19,5 @@ fn main(rt: HostRuntime) {
     let unwritten =
         b"sweep: the frames and refusals could not be written; the output is not complete\n";
     let unread = b"sweep: the input could not be read to its end; the output is not complete\n";
-    tell(last.state, last.refused, unwritten, unread);
+    tell_end(last.state, last.refused, unwritten, unread);
 }

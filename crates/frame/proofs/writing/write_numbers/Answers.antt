@@ -5,7 +5,7 @@ use mir.Val.{SFits}
 use mir.Facts.{to_z-of_z}
 use Rattle.std.proofs.Common.{rules}
 use Rattle.frame.specs.Writing.{twos_complement}
-use Rattle.frame.proofs.WriteFacts.{record-written}
+use Rattle.frame.proofs.WriteFacts.{numbers-written}
 use Rattle.frame.proofs.writing.write_numbers.Goals as goal
 
 pub returns : goal.returns
@@ -13,7 +13,7 @@ returns c =
     let a = c.args in
     let fits : SFits w32 a.numbers.zeros = search rules in
     let back = to_z-of_z {w = w32} {z = a.numbers.zeros} fits in
-    record-written a.numbers a.out.now _ _ _ _ _ _ _ _ _ _
+    numbers-written a.numbers a.out.now _ _ _ _ _ _ _ _ _ _
     c.from.ensures
     (c.twos_complement.ensures ∙ ap twos_complement back)
     c.from-2.ensures

@@ -186,7 +186,7 @@ pub line-written : (a : Answer) (n : ℕ) (cells : List Float) → written_of (s
 unfolding written_of line_of spelled_numbers record_of said_of
 line-written a n cells = refl
 
--- and its record is written as that is
+-- and its five fields, each put over the bytes behind the one before, are its record
 module _ (a : Answer) (d o1 o2 o3 o4 o5 : List ℕ) (n z s r b : ℕ) where
   pub record-written :
       n ≡ number_in a → z ≡ twos_complement (zeros_in a) → s ≡ longest_in a → r ≡ rungs_in a → b ≡ backward_in a →

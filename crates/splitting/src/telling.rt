@@ -25,20 +25,29 @@ pub fn loss<'a>(state: State, unwritten: &'a [u8], unread: &'a [u8]) -> Option<&
     }
 }
 
-// The one place where a loss is told. The state and the two lines are there for the demand.
-fn send_loss(loss: Option<&[u8]>, state: State, unwritten: &[u8], unread: &[u8])
-    requires { MatchOption loss (loss_of state unwritten.now unread.now ≡ None) (λ y. loss_of state unwritten.now unread.now ≡ Some y.now) }
-{
+// The two writes, for all that is told: no contract holds them, and tools/program/lost.py reads what a program writes by them.
+fn write_loss(loss: Option<&[u8]>) {
     if let Some(line) = loss {
         io::write_all(STDERR_FILENO, line);
     }
 }
 
-// The one place where the status is told. The state, and how many were refused, are there for the demand.
+fn write_status(digit: u8) {
+    io::write_all(STATUS_FILENO, &[digit, NEWLINE]);
+}
+
+// The one place where an end's loss is told. The state and the two lines are there for the demand.
+fn send_loss(loss: Option<&[u8]>, state: State, unwritten: &[u8], unread: &[u8])
+    requires { MatchOption loss (loss_of state unwritten.now unread.now ≡ None) (λ y. loss_of state unwritten.now unread.now ≡ Some y.now) }
+{
+    write_loss(loss);
+}
+
+// The one place where an end's status is told. The state, and how many were refused, are there for the demand.
 fn send_status(digit: u8, state: State, refused: u64)
     requires { digit ≡ status_of state refused }
 {
-    io::write_all(STATUS_FILENO, &[digit, NEWLINE]);
+    write_status(digit);
 }
 
 // The line for a write that failed, and the line for a read that failed, are the program's.
@@ -52,10 +61,8 @@ fn send_lent(loss: Option<&[u8]>, digit: u8, lent: Option<&[u8]>, given: u8)
     requires line { loss ≡ lent }
     requires digit { digit ≡ given }
 {
-    if let Some(line) = loss {
-        io::write_all(STDERR_FILENO, line);
-    }
-    io::write_all(STATUS_FILENO, &[digit, NEWLINE]);
+    write_loss(loss);
+    write_status(digit);
 }
 
 // The same of any line and any digit, for a program that has other ends than State's.
@@ -66,21 +73,28 @@ pub fn tell(loss: Option<&[u8]>, status: u8) {
 #[cfg(test)]
 mod tests {
     use super::*;
-    use std::fs;
-    use std::io::Read;
+    use std::fs::{self, OpenOptions};
+    use std::io::{Read, Seek, SeekFrom};
     use std::os::fd::AsRawFd;
 
-    // No descriptor is open in a test but the first three, so that the file is the one on which the digit is told.
+    // No descriptor is open in a test but the first three, so that the file is the one on which the digit is told. It has no name any more by then.
     #[test]
     fn any_line_and_any_digit(rt: HostRuntime) -> std::io::Result<()> {
-        let told = fs::create(&rt, "told")?;
+        let mut told = OpenOptions::new()
+            .read(true)
+            .write(true)
+            .create(true)
+            .truncate(true)
+            .open(&rt, "told")?;
+        fs::remove_file(&rt, "told")?;
         assert_eq!(rt; told.as_raw_fd(), STATUS_FILENO);
         tell(Some(b"told: a line and the digit 7\n"), b'7');
         tell(None, b'x');
         tell(Some(b""), b'0');
+        told.seek(SeekFrom::Start(0))?;
         let mut bytes = [0u8; 16];
-        let n = fs::open(&rt, "told")?.read(&mut bytes)?;
+        let n = told.read(&mut bytes)?;
         assert!(rt; &bytes[..n] == b"7\nx\n0\n".as_slice());
-        fs::remove_file(&rt, "told")
+        Ok(())
     }
 }
